@@ -1,0 +1,3 @@
+pub mod Action
+pub mod Legal
+pub mod small
