@@ -1,0 +1,6 @@
+pub mod Bytes
+pub mod Words
+pub mod Spell
+pub mod Blank
+pub mod Lex
+pub mod Scan

@@ -1,0 +1,16 @@
+//! The tokens of a source text: the one list of tokens that the bytes have, or the first place that is
+//! no token, white space or comment.
+#![tactic(auto)]
+
+mod blank;
+mod lexer;
+mod mark;
+mod number;
+mod quoted;
+#[cfg(test)]
+mod tests;
+mod token;
+mod word;
+
+pub use lexer::{lex, spaced_text_lexes};
+pub use token::{Keyword, Kind, LexRefusal, Mark, Spelling, Token, Tokens};

@@ -1,0 +1,10 @@
+pub mod Texts
+pub mod Numbers
+pub mod Parsing
+pub mod Bodies
+pub mod Items
+pub mod Names
+pub mod Elaborating
+pub mod Elaborated
+pub mod Validity
+pub mod Compiled

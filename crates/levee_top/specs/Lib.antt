@@ -1,0 +1,13 @@
+pub mod Lines
+pub mod Source
+pub mod Elaborate
+pub mod Script
+pub mod Status
+pub mod Text
+pub mod Outcome
+pub mod Levee
+pub mod Field
+pub mod Reading
+pub mod Symbols
+pub mod Elaboration
+pub mod ScriptReading

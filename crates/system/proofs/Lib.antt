@@ -1,0 +1,6 @@
+mod Bodies
+mod Maps
+mod Records
+mod Runs
+mod Sound
+mod Stack
