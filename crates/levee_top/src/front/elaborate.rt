@@ -23,7 +23,7 @@ struct Elaboration<'a> {
     functions: FunctionList,
 }
 
-/// The program of a source whose names are proper.
+/// The program of a source, whatever its limits.
 ///
 /// # Errors
 ///
