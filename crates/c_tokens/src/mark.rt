@@ -59,7 +59,7 @@ const MARKS: [Mark; 45] = [
 
 impl Mark {
     /// The text of the mark.
-    pub(crate) fn text(self) -> &'static [u8]
+    pub fn text(self) -> &'static [u8]
         ensures { result.now ≡ mark_text self }
     {
         match self {

@@ -49,7 +49,7 @@ const KEYWORDS: [Keyword; 32] = [
 
 impl Keyword {
     /// The text of the keyword.
-    pub(crate) fn text(self) -> &'static [u8]
+    pub fn text(self) -> &'static [u8]
         ensures { result.now ≡ keyword_text self }
     {
         match self {

@@ -1,0 +1,7 @@
+//! Writes trees as text.
+
+mod expression;
+mod statement;
+mod token;
+
+pub use statement::print_unit;
