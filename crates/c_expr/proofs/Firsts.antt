@@ -1,0 +1,138 @@
+-- What a token list of each form begins with, and that none is empty where the form isn't.
+use Rattle.std.proofs.Common.{◌≡◌, ◌≢◌, ℕ, zero, suc, Bool, true, false, IsTrue, List, [], ◌∷◌, ◌++◌, refl, sym, subst}
+use Rattle.std.specs.List.{Contains}
+use Rattle.std.proofs.lemmas.Bool.{false≢true}
+use Rattle.c_tokens.specs.declared.token.Keyword.{Keyword}
+use Rattle.c_tokens.specs.declared.token.Keyword.TheVariants as word
+use Rattle.c_tokens.specs.declared.token.Kind.{Kind}
+use Rattle.c_tokens.specs.declared.token.Kind.TheVariants.{Word, Name, Number, Text, Mark}
+use Rattle.c_tokens.specs.declared.token.Mark.{Mark as MarkName}
+use Rattle.c_tokens.specs.declared.token.Mark.TheVariants as mark
+use Rattle.c_tree.specs.declared.expression.Expr.{Expr}
+use Rattle.c_tree.specs.declared.expression.Spec.{Spec}
+use Rattle.c_tree.specs.declared.expression.TypeWord.{TypeWord}
+use Rattle.c_tree.specs.declared.expression.UnaryOperator.{UnaryOperator}
+use Rattle.c_tree.specs.declared.expression.UnaryOperator.TheVariants as unary
+use Rattle.c_tree.specs.Marks.{Kinds, wrapped, unary_mark}
+use Rattle.c_tree.specs.Grammar.{IsFree, SpecReads, TypeWordReads, ExprReads, ExprForm}
+
+abbrev pub mark_begins_expression : MarkName → Bool
+mark_begins_expression mark.LeftParenthesis = true
+mark_begins_expression mark.Increment = true
+mark_begins_expression mark.Decrement = true
+mark_begins_expression mark.Ampersand = true
+mark_begins_expression mark.Star = true
+mark_begins_expression mark.Minus = true
+mark_begins_expression mark.Tilde = true
+mark_begins_expression mark.Exclamation = true
+mark_begins_expression _ = false
+
+abbrev pub word_begins_spec : Keyword → Bool
+word_begins_spec word.Int = true
+word_begins_spec word.Char = true
+word_begins_spec word.Void = true
+word_begins_spec word.Struct = true
+word_begins_spec _ = false
+
+abbrev pub CanBeginExpression : List (List ℕ) → Kind → Type 0
+CanBeginExpression names (Word w) = w ≡ word.Sizeof
+CanBeginExpression names (Name x) = IsFree names x
+CanBeginExpression names (Number n) = Unit {0}
+CanBeginExpression names (Text bytes) = Unit {0}
+CanBeginExpression names (Mark m) = IsTrue (mark_begins_expression m)
+
+abbrev pub CanBeginSpec : List (List ℕ) → Kind → Type 0
+CanBeginSpec names (Word w) = IsTrue (word_begins_spec w)
+CanBeginSpec names (Name x) = Contains names x
+CanBeginSpec names (Number n) = ⊥
+CanBeginSpec names (Text bytes) = ⊥
+CanBeginSpec names (Mark m) = ⊥
+
+-- the tokens begin with one for which this holds
+abbrev pub Begins : (Kind → Type 0) → Kinds → Type 0
+Begins P [] = ⊥
+Begins P (k ∷ ks) = P k
+
+pub Begins-append : (P : Kind → Type 0) (ts rest : Kinds) → Begins P ts → Begins P (ts ++ rest)
+Begins-append P [] rest h = absurd h
+Begins-append P (k ∷ ks) rest h = h
+
+pub Begins-same : (P : Kind → Type 0) {ts us : Kinds} → ts ≡ us → Begins P us → Begins P ts
+Begins-same P is h = subst (λ ks. Begins P ks) (sym is) h
+
+pub Begins-some : (P : Kind → Type 0) (ts : Kinds) → Begins P ts → ts ≢ []
+Begins-some P ts h is = subst (λ ks. Begins P ks) is h
+
+pub Begins-wrapped : (names : List (List ℕ)) (pairs : ℕ) (ts : Kinds) → Begins (CanBeginExpression names) ts → Begins (CanBeginExpression names) (wrapped pairs ts)
+Begins-wrapped names zero ts h = h
+Begins-wrapped names (suc pairs) ts h = refl
+
+unary_begins : (op : UnaryOperator) → IsTrue (mark_begins_expression (unary_mark op))
+unary_begins unary.Address = refl
+unary_begins unary.Dereference = refl
+unary_begins unary.Negate = refl
+unary_begins unary.Complement = refl
+unary_begins unary.Not = refl
+
+mutual
+  pub ExprReads-begins : {names : List (List ℕ)} {least h : ℕ} {ts : Kinds} {e : Expr} → ExprReads names least h ts e → Begins (CanBeginExpression names) ts
+  ExprReads-begins {names} (ExprReads.reads least h ts e pairs level inner few fits is form) = Begins-same _ is (Begins-wrapped names pairs inner (ExprForm-begins form))
+
+  pub ExprForm-begins : {names : List (List ℕ)} {level h : ℕ} {ts : Kinds} {e : Expr} → ExprForm names level h ts e → Begins (CanBeginExpression names) ts
+  ExprForm-begins (ExprForm.assign level h ts e a b op ha hb ats bs l hi is ei left right) = Begins-same _ is (Begins-append _ ats _ (ExprReads-begins left))
+  ExprForm-begins (ExprForm.conditional level h ts e c a b hc ha hb cs ats bs l hi is ei test then otherwise) =
+      Begins-same _ is (Begins-append _ (cs ++ Mark mark.Question ∷ ats) _ (Begins-append _ cs _ (ExprReads-begins test)))
+  ExprForm-begins (ExprForm.binary level h ts e a b op ha hb ats bs l hi is ei left right) = Begins-same _ is (Begins-append _ ats _ (ExprReads-begins left))
+  ExprForm-begins (ExprForm.cast level h ts e t a ht ha tts ats l hi is ei ty operand) = Begins-same _ is refl
+  ExprForm-begins (ExprForm.pre_increment level h ts e a ha ats l hi is ei operand) = Begins-same _ is refl
+  ExprForm-begins (ExprForm.pre_decrement level h ts e a ha ats l hi is ei operand) = Begins-same _ is refl
+  ExprForm-begins (ExprForm.unary level h ts e a op ha ats l hi is ei operand) = Begins-same _ is (unary_begins op)
+  ExprForm-begins (ExprForm.sizeof_expression level h ts e a ha ats l hi is ei operand) = Begins-same _ is refl
+  ExprForm-begins (ExprForm.sizeof_type level h ts e t ht tts l hi is ei ty) = Begins-same _ is refl
+  ExprForm-begins (ExprForm.index level h ts e a i ha ii ats its l hi is ei left place) =
+      Begins-same _ is (Begins-append _ (ats ++ Mark mark.LeftBracket ∷ its) _ (Begins-append _ ats _ (ExprReads-begins left)))
+  ExprForm-begins (ExprForm.call level h ts e f arguments hf ha fs ats l hi is ei left given) = Begins-same _ is (Begins-append _ fs _ (ExprReads-begins left))
+  ExprForm-begins (ExprForm.member level h ts e a x ha ats l hi free is ei left) = Begins-same _ is (Begins-append _ ats _ (ExprReads-begins left))
+  ExprForm-begins (ExprForm.arrow level h ts e a x ha ats l hi free is ei left) = Begins-same _ is (Begins-append _ ats _ (ExprReads-begins left))
+  ExprForm-begins (ExprForm.post_increment level h ts e a ha ats l hi is ei left) = Begins-same _ is (Begins-append _ ats _ (ExprReads-begins left))
+  ExprForm-begins (ExprForm.post_decrement level h ts e a ha ats l hi is ei left) = Begins-same _ is (Begins-append _ ats _ (ExprReads-begins left))
+  ExprForm-begins (ExprForm.name level h ts e x l hi free is ei) = Begins-same _ is free
+  ExprForm-begins (ExprForm.number level h ts e n l hi is ei) = Begins-same _ is tt
+  ExprForm-begins (ExprForm.text level h ts e bytes l hi is ei) = Begins-same _ is tt
+
+pub SpecReads-begins : {names : List (List ℕ)} {bodies : Bool} {h : ℕ} {ts : Kinds} {s : Spec} → SpecReads names bodies h ts s → Begins (CanBeginSpec names) ts
+SpecReads-begins (SpecReads.int bodies h ts s hi is si) = Begins-same _ is refl
+SpecReads-begins (SpecReads.char bodies h ts s hi is si) = Begins-same _ is refl
+SpecReads-begins (SpecReads.void bodies h ts s hi is si) = Begins-same _ is refl
+SpecReads-begins (SpecReads.type_name bodies h ts s x hi known is si) = Begins-same _ is known
+SpecReads-begins (SpecReads.tag bodies h ts s x hi free is si) = Begins-same _ is refl
+SpecReads-begins (SpecReads.body bodies h ts s x hm ms members may hi free is si some read) = Begins-same _ is refl
+
+pub TypeWordReads-begins : {names : List (List ℕ)} {h : ℕ} {ts : Kinds} {t : TypeWord} → TypeWordReads names h ts t → Begins (CanBeginSpec names) ts
+TypeWordReads-begins (TypeWordReads.type_word h ts t s a hs ha ss ats hi is ti spec abstract) = Begins-same _ is (Begins-append _ ss _ (SpecReads-begins spec))
+
+-- no token begins both an expression and a spec
+pub begins_one : (names : List (List ℕ)) (k : Kind) → CanBeginExpression names k → CanBeginSpec names k → ⊥
+begins_one names (Word w) e s = false≢true (subst (λ v. IsTrue (word_begins_spec v)) e s)
+begins_one names (Name x) e s = e s
+begins_one names (Number n) e s = s
+begins_one names (Text bytes) e s = s
+begins_one names (Mark m) e s = s
+
+pub begin_apart : (names : List (List ℕ)) (ts : Kinds) → Begins (CanBeginExpression names) ts → Begins (CanBeginSpec names) ts → ⊥
+begin_apart names [] e s = e
+begin_apart names (k ∷ ks) e s = begins_one names k e s
+
+-- no text begins both with an expression and with a spec
+pub no_expression_and_spec : {names : List (List ℕ)} {bodies : Bool} {least he hs : ℕ} {es ss : Kinds} {e : Expr} {s : Spec} (x y : Kinds) → ExprReads names least he es e → SpecReads names bodies hs ss s → es ++ x ≡ ss ++ y → ⊥
+no_expression_and_spec {names} {es = es} {ss = ss} x y e s is =
+    begin_apart names (es ++ x) (Begins-append _ es x (ExprReads-begins e)) (Begins-same _ is (Begins-append _ ss y (SpecReads-begins s)))
+
+pub ExprReads-some : {names : List (List ℕ)} {least h : ℕ} {ts : Kinds} {e : Expr} → ExprReads names least h ts e → ts ≢ []
+ExprReads-some r = Begins-some _ _ (ExprReads-begins r)
+
+pub SpecReads-some : {names : List (List ℕ)} {bodies : Bool} {h : ℕ} {ts : Kinds} {s : Spec} → SpecReads names bodies h ts s → ts ≢ []
+SpecReads-some r = Begins-some _ _ (SpecReads-begins r)
+
+pub TypeWordReads-some : {names : List (List ℕ)} {h : ℕ} {ts : Kinds} {t : TypeWord} → TypeWordReads names h ts t → ts ≢ []
+TypeWordReads-some r = Begins-some _ _ (TypeWordReads-begins r)

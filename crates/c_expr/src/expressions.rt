@@ -1,0 +1,330 @@
+//! Expressions, by precedence climbing.
+
+ghost use Rattle.std.specs.Prelude.{◌≡◌, ◌≤◌, ◌<◌, ◌+◌, ◌-◌, ◌^◌, IfOk, IfSome};
+ghost use Rattle.c_expr.specs.Parser.{separated};
+ghost use Rattle.c_expr.specs.Nests.{Nests, below, in_pair};
+ghost use Rattle.c_expr.specs.Readers as reader;
+ghost use Rattle.c_expr.specs.Reads.{Reads};
+
+use crate::cursor::Cursor;
+use crate::error::Failure;
+use crate::front::{free_name, name_of, opened, opens_type};
+use crate::grammar::Grammar;
+use crate::level::{
+    ASSIGN_LEVEL, CAST_LEVEL, CONDITIONAL_LEVEL, GREATEST_PAIRS, UNARY_LEVEL, binary_level,
+    continuation, left_level, whole_level,
+};
+use crate::names::Names;
+use crate::operand::{Continuation, Operand, Part, bracketed, extended};
+use c_tokens::{Keyword, Kind, Mark};
+use c_tree::{Expr, Params, UnaryOperator};
+use sqlite_items::Items;
+use std::alloc::Global;
+
+impl<'n, F, G> Grammar<'n, F, G>
+where
+    F: Fn(Global, &Names, &mut Cursor<'_>, usize, usize) -> Result<(Expr, usize), Failure> + Copy,
+    G: Fn(Global, &Names, &mut Cursor<'_>, usize) -> Result<(Params, usize), Failure> + Copy,
+{
+    /// Expressions with commas between, at least one.
+    fn expressions(&self, tokens: &mut Cursor<'_>) -> Result<(Items<Expr>, usize), Failure>
+        requires { Nests self.now.depth (F.pre self.now.expr) (F.post self.now.expr) (G.pre self.now.params) (G.post self.now.params) }
+        ensures reads { Reads (separated ((below self.now.names.now self.now.depth).expr 0) tokens.old) result tokens.new }
+        ensures tall { IfOk result (λ es. es.1 ≤ self.now.depth - 1) }
+    {
+        let mut found = Items::new(self.alloc);
+        let mut height = 0;
+        for _turn in 0..tokens.left() {
+            let (expr, its_height) = self.inner_expr(tokens, ASSIGN_LEVEL)?;
+            found.push(expr)?;
+            height = height.max(its_height);
+            if !tokens.eat(Mark::Comma) {
+                return Ok((found, height));
+            }
+        }
+        Err(Failure::Mismatch)
+    }
+
+    /// The arguments of a call, behind its `(`.
+    #[tactic(auto, unfolding(crate::specs::Readers::arguments))]
+    fn arguments(&self, tokens: &mut Cursor<'_>) -> Result<(Items<Expr>, usize), Failure>
+        requires { Nests self.now.depth (F.pre self.now.expr) (F.post self.now.expr) (G.pre self.now.params) (G.post self.now.params) }
+        ensures reads { Reads (reader.arguments self.now.names.now (below self.now.names.now self.now.depth) tokens.old) result tokens.new }
+        ensures tall { IfOk result (λ es. es.1 ≤ self.now.depth - 1) }
+    {
+        if tokens.eat(Mark::RightParenthesis) {
+            return Ok((Items::new(self.alloc), 0));
+        }
+        let given = self.expressions(tokens)?;
+        tokens.expect(Mark::RightParenthesis)?;
+        Ok(given)
+    }
+
+    /// What stands behind a `[`.
+    #[tactic(auto, unfolding(crate::specs::Readers::index))]
+    fn index(&self, tokens: &mut Cursor<'_>) -> Result<(Part, usize), Failure>
+        requires { Nests self.now.depth (F.pre self.now.expr) (F.post self.now.expr) (G.pre self.now.params) (G.post self.now.params) }
+        ensures reads { Reads (reader.index self.now.names.now (below self.now.names.now self.now.depth) tokens.old) result tokens.new }
+        ensures tall { IfOk result (λ p. p.1 ≤ self.now.depth - 1) }
+    {
+        let (at, height) = self.inner_boxed(tokens, ASSIGN_LEVEL)?;
+        tokens.expect(Mark::RightBracket)?;
+        Ok((Part::Index(at), height))
+    }
+
+    /// What stands behind a `?`.
+    #[tactic(auto, unfolding(crate::specs::Readers::arms))]
+    fn arms(&self, tokens: &mut Cursor<'_>) -> Result<(Part, usize), Failure>
+        requires { Nests self.now.depth (F.pre self.now.expr) (F.post self.now.expr) (G.pre self.now.params) (G.post self.now.params) }
+        ensures reads { Reads (reader.arms self.now.names.now (below self.now.names.now self.now.depth) tokens.old) result tokens.new }
+        ensures tall { IfOk result (λ p. p.1 ≤ self.now.depth - 1) }
+    {
+        let (first, first_height) = self.inner_boxed(tokens, ASSIGN_LEVEL)?;
+        tokens.expect(Mark::Colon)?;
+        let (second, second_height) = self.inner_boxed(tokens, CONDITIONAL_LEVEL)?;
+        Ok((
+            Part::Conditional(first, second),
+            first_height.max(second_height),
+        ))
+    }
+
+    /// What an operand goes on with, behind the mark.
+    #[tactic(auto, unfolding(crate::specs::Readers::part))]
+    fn part(&self, tokens: &mut Cursor<'_>, next: Continuation) -> Result<(Part, usize), Failure>
+        requires { Nests self.now.depth (F.pre self.now.expr) (F.post self.now.expr) (G.pre self.now.params) (G.post self.now.params) }
+        ensures reads { Reads (reader.part self.now.names.now (below self.now.names.now self.now.depth) next tokens.old) result tokens.new }
+        ensures tall { IfOk result (λ p. p.1 ≤ self.now.depth - 1) }
+    {
+        match next {
+            Continuation::Index => self.index(tokens),
+            Continuation::Call => {
+                let (given, height) = self.arguments(tokens)?;
+                Ok((Part::Call(given), height))
+            }
+            Continuation::Member => {
+                let name = free_name(self.alloc, self.names, tokens)?;
+                Ok((Part::Member(name), 0))
+            }
+            Continuation::Arrow => {
+                let name = free_name(self.alloc, self.names, tokens)?;
+                Ok((Part::Arrow(name), 0))
+            }
+            Continuation::Increment => Ok((Part::Increment, 0)),
+            Continuation::Decrement => Ok((Part::Decrement, 0)),
+            Continuation::Binary(op) => {
+                let (right, height) = self.inner_boxed(tokens, 1 + binary_level(op))?;
+                Ok((Part::Binary(op, right), height))
+            }
+            Continuation::Conditional => self.arms(tokens),
+            Continuation::Assign(op) => {
+                let (right, height) = self.inner_boxed(tokens, ASSIGN_LEVEL)?;
+                Ok((Part::Assign(op, right), height))
+            }
+        }
+    }
+
+    /// What the operand goes on with, at these levels.
+    #[tactic(auto, unfolding(crate::specs::Readers::going_on))]
+    fn going_on(&self, tokens: &Cursor<'_>, least: usize, operand: &Operand) -> Option<Continuation>
+        ensures is { result ≡ reader.going_on (self.now.depth - 1) least operand.now tokens.now }
+        ensures low { IfSome result (λ _. operand.now.height ≤ self.now.depth - 1) }
+    {
+        let Some(Kind::Mark(mark)) = tokens.peek() else {
+            return None;
+        };
+        let next = continuation(*mark)?;
+        if least <= whole_level(next)
+            && left_level(next) <= operand.level
+            && operand.height <= self.limit()
+        {
+            Some(next)
+        } else {
+            None
+        }
+    }
+
+    /// The operand with all that goes on behind it, at these levels. An attempt that gives nothing leaves it as it is.
+    fn grow(
+        &self,
+        tokens: &mut Cursor<'_>,
+        least: usize,
+        operand: Operand,
+    ) -> Result<Operand, Failure>
+        requires nests { Nests self.now.depth (F.pre self.now.expr) (F.post self.now.expr) (G.pre self.now.params) (G.post self.now.params) }
+        requires low { operand.height ≤ 1 + (self.now.depth - 1) }
+        ensures reads { Reads (reader.grow self.now.names.now (below self.now.names.now self.now.depth) (self.now.depth - 1) least operand tokens.old) result tokens.new }
+        ensures tall { IfOk result (λ o. o.height ≤ 1 + (self.now.depth - 1)) }
+    {
+        let mut whole = operand;
+        for _turn in 0..tokens.left() {
+            let Some(next) = self.going_on(tokens, least, &whole) else {
+                return Ok(whole);
+            };
+            let place = tokens.place();
+            tokens.skip();
+            match self.part(tokens, next) {
+                Ok((part, height)) => whole = extended(self.alloc, whole, part, height)?,
+                Err(Failure::Memory) => return Err(Failure::Memory),
+                Err(Failure::Mismatch) => {
+                    tokens.go_back(place);
+                    return Ok(whole);
+                }
+            }
+        }
+        Ok(whole)
+    }
+
+    /// The operand in the parentheses that are open round it.
+    #[tactic(auto, unfolding(crate::specs::Nests::in_pair))]
+    fn in_pair(&self, tokens: &mut Cursor<'_>, operand: Operand) -> Result<Operand, Failure>
+        requires nests { Nests self.now.depth (F.pre self.now.expr) (F.post self.now.expr) (G.pre self.now.params) (G.post self.now.params) }
+        requires low { operand.height ≤ 1 + (self.now.depth - 1) }
+        ensures reads { Reads (in_pair self.now.names.now (below self.now.names.now self.now.depth) (self.now.depth - 1) operand tokens.old) result tokens.new }
+        ensures tall { IfOk result (λ o. o.height ≤ 1 + (self.now.depth - 1)) }
+    {
+        let whole = self.grow(tokens, ASSIGN_LEVEL, operand)?;
+        tokens.expect(Mark::RightParenthesis)?;
+        if whole.pairs < GREATEST_PAIRS {
+            Ok(bracketed(whole))
+        } else {
+            Err(Failure::Mismatch)
+        }
+    }
+
+    /// The whole expression of this operand, in so many parentheses that are open.
+    fn close(
+        &self,
+        tokens: &mut Cursor<'_>,
+        least: usize,
+        pairs: usize,
+        operand: Operand,
+    ) -> Result<(Expr, usize), Failure>
+        requires nests { Nests self.now.depth (F.pre self.now.expr) (F.post self.now.expr) (G.pre self.now.params) (G.post self.now.params) }
+        requires low { operand.height ≤ 1 + (self.now.depth - 1) }
+        ensures reads { Reads (reader.close self.now.names.now (below self.now.names.now self.now.depth) (self.now.depth - 1) least pairs operand tokens.old) result tokens.new }
+        ensures tall { IfOk result (λ e. e.1 ≤ 1 + (self.now.depth - 1)) }
+    {
+        let mut whole = operand;
+        for _pair in 0..pairs {
+            whole = self.in_pair(tokens, whole)?;
+        }
+        let whole = self.grow(tokens, least, whole)?;
+        if least <= whole.level {
+            Ok((whole.expr, whole.height))
+        } else {
+            Err(Failure::Mismatch)
+        }
+    }
+
+    /// What stands behind `sizeof`.
+    #[tactic(auto, unfolding(crate::specs::Readers::sizeof))]
+    fn sizeof(&self, tokens: &mut Cursor<'_>) -> Result<Operand, Failure>
+        requires { Nests self.now.depth (F.pre self.now.expr) (F.post self.now.expr) (G.pre self.now.params) (G.post self.now.params) }
+        ensures reads { Reads (reader.sizeof self.now.names.now (below self.now.names.now self.now.depth) tokens.old) result tokens.new }
+        ensures tall { IfOk result (λ o. o.height ≤ 1 + (self.now.depth - 1)) }
+    {
+        if opens_type(self.names, tokens) {
+            tokens.expect(Mark::LeftParenthesis)?;
+            let (word, height) = self.inner_type_word(tokens)?;
+            tokens.expect(Mark::RightParenthesis)?;
+            return Ok(Operand::new(UNARY_LEVEL, Expr::SizeofType(word), 1 + height));
+        }
+        let (inside, height) = self.inner_boxed(tokens, UNARY_LEVEL)?;
+        Ok(Operand::new(UNARY_LEVEL, Expr::SizeofExpr(inside), 1 + height))
+    }
+
+    /// What stands behind the `(` of a cast.
+    #[tactic(auto, unfolding(crate::specs::Readers::cast))]
+    fn cast(&self, tokens: &mut Cursor<'_>) -> Result<Operand, Failure>
+        requires { Nests self.now.depth (F.pre self.now.expr) (F.post self.now.expr) (G.pre self.now.params) (G.post self.now.params) }
+        ensures reads { Reads (reader.cast self.now.names.now (below self.now.names.now self.now.depth) tokens.old) result tokens.new }
+        ensures tall { IfOk result (λ o. o.height ≤ 1 + (self.now.depth - 1)) }
+    {
+        let (word, word_height) = self.inner_type_word(tokens)?;
+        tokens.expect(Mark::RightParenthesis)?;
+        let (inside, height) = self.inner_boxed(tokens, CAST_LEVEL)?;
+        Ok(Operand::new(
+            CAST_LEVEL,
+            Expr::Cast(word, inside),
+            1 + word_height.max(height),
+        ))
+    }
+
+    /// What stands behind a unary operator.
+    #[tactic(auto, unfolding(crate::specs::Readers::unary_behind))]
+    fn unary_behind(&self, tokens: &mut Cursor<'_>, op: UnaryOperator) -> Result<Operand, Failure>
+        requires { Nests self.now.depth (F.pre self.now.expr) (F.post self.now.expr) (G.pre self.now.params) (G.post self.now.params) }
+        ensures reads { Reads (reader.unary_behind self.now.names.now (below self.now.names.now self.now.depth) op tokens.old) result tokens.new }
+        ensures tall { IfOk result (λ o. o.height ≤ 1 + (self.now.depth - 1)) }
+    {
+        let (inside, height) = self.inner_boxed(tokens, CAST_LEVEL)?;
+        Ok(Operand::new(UNARY_LEVEL, Expr::Unary(op, inside), 1 + height))
+    }
+
+    /// What stands behind a mark that begins an expression.
+    #[tactic(auto, unfolding(crate::specs::Readers::prefix))]
+    fn prefix(&self, tokens: &mut Cursor<'_>, mark: Mark) -> Result<Operand, Failure>
+        requires { Nests self.now.depth (F.pre self.now.expr) (F.post self.now.expr) (G.pre self.now.params) (G.post self.now.params) }
+        ensures reads { Reads (reader.prefix self.now.names.now (below self.now.names.now self.now.depth) mark tokens.old) result tokens.new }
+        ensures tall { IfOk result (λ o. o.height ≤ 1 + (self.now.depth - 1)) }
+    {
+        match mark {
+            Mark::LeftParenthesis => self.cast(tokens),
+            Mark::Increment => {
+                let (inside, height) = self.inner_boxed(tokens, UNARY_LEVEL)?;
+                Ok(Operand::new(UNARY_LEVEL, Expr::PreIncrement(inside), 1 + height))
+            }
+            Mark::Decrement => {
+                let (inside, height) = self.inner_boxed(tokens, UNARY_LEVEL)?;
+                Ok(Operand::new(UNARY_LEVEL, Expr::PreDecrement(inside), 1 + height))
+            }
+            Mark::Ampersand => self.unary_behind(tokens, UnaryOperator::Address),
+            Mark::Star => self.unary_behind(tokens, UnaryOperator::Dereference),
+            Mark::Minus => self.unary_behind(tokens, UnaryOperator::Negate),
+            Mark::Tilde => self.unary_behind(tokens, UnaryOperator::Complement),
+            Mark::Exclamation => self.unary_behind(tokens, UnaryOperator::Not),
+            _ => Err(Failure::Mismatch),
+        }
+    }
+
+    /// The front of an expression: a primary without parentheses, or a prefix and its operand.
+    #[tactic(auto, unfolding(crate::specs::Readers::head))]
+    fn head(&self, tokens: &mut Cursor<'_>) -> Result<Operand, Failure>
+        requires { Nests self.now.depth (F.pre self.now.expr) (F.post self.now.expr) (G.pre self.now.params) (G.post self.now.params) }
+        ensures reads { Reads (reader.head self.now.names.now (below self.now.names.now self.now.depth) tokens.old) result tokens.new }
+        ensures tall { IfOk result (λ o. o.height ≤ 1 + (self.now.depth - 1)) }
+    {
+        let Some(kind) = tokens.peek() else {
+            return Err(Failure::Mismatch);
+        };
+        tokens.skip();
+        match kind {
+            Kind::Name(name) => {
+                if self.names.contains(name.as_slice()) {
+                    return Err(Failure::Mismatch);
+                }
+                Ok(Operand::leaf(Expr::Name(name_of(self.alloc, name)?)))
+            }
+            Kind::Number(n) => Ok(Operand::leaf(Expr::Number(*n))),
+            Kind::Text(bytes) => {
+                let bytes = Items::from_slice(self.alloc, bytes.as_slice())?;
+                Ok(Operand::leaf(Expr::Text(bytes)))
+            }
+            Kind::Word(Keyword::Sizeof) => self.sizeof(tokens),
+            Kind::Word(_) => Err(Failure::Mismatch),
+            Kind::Mark(mark) => self.prefix(tokens, *mark),
+        }
+    }
+
+    /// An expression of this level or a tighter one.
+    #[tactic(auto, unfolding(crate::specs::Readers::level, crate::specs::Readers::level_in))]
+    pub fn level(&self, tokens: &mut Cursor<'_>, least: usize) -> Result<(Expr, usize), Failure>
+        requires { Nests self.now.depth (F.pre self.now.expr) (F.post self.now.expr) (G.pre self.now.params) (G.post self.now.params) }
+        ensures reads { Reads (reader.level self.now.names.now (below self.now.names.now self.now.depth) (self.now.depth - 1) least tokens.old) result tokens.new }
+        ensures tall { IfOk result (λ e. e.1 ≤ 1 + (self.now.depth - 1)) }
+    {
+        let pairs = opened(self.names, tokens);
+        let first = self.head(tokens)?;
+        self.close(tokens, least, pairs, first)
+    }
+}

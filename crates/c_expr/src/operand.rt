@@ -1,0 +1,131 @@
+ghost use Rattle.std.specs.Prelude.{◌≡◌, ◌+◌, ◌<◌, ◌^◌, max, IfOk};
+ghost use Rattle.c_expr.specs.Readers as reader;
+
+use crate::level::{ASSIGN_LEVEL, CONDITIONAL_LEVEL, POSTFIX_LEVEL, PRIMARY_LEVEL, binary_level};
+use c_tree::{AssignOperator, BinaryOperator, Expr};
+use c_types::Name;
+use sqlite_items::{Boxed, Items};
+use std::alloc::{AllocError, Global};
+
+/// What a mark behind an operand begins.
+#[derive(Clone, Copy, Debug)]
+pub(crate) enum Continuation {
+    Index,
+    Call,
+    Member,
+    Arrow,
+    Increment,
+    Decrement,
+    Binary(BinaryOperator),
+    Conditional,
+    Assign(AssignOperator),
+}
+
+/// What goes on behind an operand.
+#[derive(Debug, Drop)]
+pub(crate) enum Part {
+    Index(Boxed<Expr>),
+    Call(Items<Expr>),
+    Member(Name),
+    Arrow(Name),
+    Increment,
+    Decrement,
+    Binary(BinaryOperator, Boxed<Expr>),
+    Conditional(Boxed<Expr>, Boxed<Expr>),
+    Assign(AssignOperator, Boxed<Expr>),
+}
+
+/// An expression that may go on.
+#[derive(Debug, Drop)]
+pub(crate) struct Operand {
+    pub expr: Expr,
+    /// The level of the grammar that it is of.
+    pub level: usize,
+    /// How many pairs of parentheses stand directly round it.
+    pub pairs: usize,
+    /// How deep its nodes are.
+    pub height: usize,
+}
+
+impl Operand {
+    /// An operand of this level, with no parentheses round it.
+    pub fn new(level: usize, expr: Expr, height: usize) -> Operand
+        ensures { result ≡ reader.operand level expr height }
+    {
+        Operand {
+            expr,
+            level,
+            pairs: 0,
+            height,
+        }
+    }
+
+    /// An operand of one token.
+    pub fn leaf(expr: Expr) -> Operand
+        ensures { result ≡ reader.leaf expr }
+    {
+        Operand::new(PRIMARY_LEVEL, expr, 1)
+    }
+}
+
+/// The level of an operand that this ends.
+fn part_level(part: &Part) -> usize
+    ensures { result ≡ reader.part_level part.now }
+{
+    match part {
+        Part::Binary(op, _) => binary_level(*op),
+        Part::Conditional(..) => CONDITIONAL_LEVEL,
+        Part::Assign(..) => ASSIGN_LEVEL,
+        _ => POSTFIX_LEVEL,
+    }
+}
+
+/// The expression with what goes on behind it.
+fn with_part(left: Boxed<Expr>, part: Part) -> Expr
+    ensures { result ≡ reader.with_part left part }
+{
+    match part {
+        Part::Index(at) => Expr::Index(left, at),
+        Part::Call(given) => Expr::Call(left, given),
+        Part::Member(name) => Expr::Member(left, name),
+        Part::Arrow(name) => Expr::Arrow(left, name),
+        Part::Increment => Expr::PostIncrement(left),
+        Part::Decrement => Expr::PostDecrement(left),
+        Part::Binary(op, right) => Expr::Binary(left, op, right),
+        Part::Conditional(first, second) => Expr::Conditional(left, first, second),
+        Part::Assign(op, right) => Expr::Assign(left, op, right),
+    }
+}
+
+/// The operand with what goes on behind it, which is so high.
+#[tactic(auto, unfolding(crate::specs::Readers::extended))]
+pub(crate) fn extended(
+    alloc: Global,
+    operand: Operand,
+    part: Part,
+    height: usize,
+) -> Result<Operand, AllocError>
+    requires low { operand.height < 2 ^ 32 }
+    requires part_low { height < 2 ^ 32 }
+    ensures is { IfOk result (λ o. o ≡ reader.extended operand (part, height)) }
+    ensures tall { IfOk result (λ o. o.height ≡ 1 + max operand.height height) }
+{
+    let level = part_level(&part);
+    let height = 1 + operand.height.max(height);
+    let left = Boxed::new(alloc, operand.expr)?;
+    Ok(Operand::new(level, with_part(left, part), height))
+}
+
+/// The operand in one more pair of parentheses.
+#[tactic(auto, unfolding(crate::specs::Readers::bracketed))]
+pub(crate) fn bracketed(operand: Operand) -> Operand
+    requires { operand.pairs < 2 ^ 32 }
+    ensures is { result ≡ reader.bracketed operand }
+    ensures tall { result.height ≡ operand.height }
+{
+    Operand {
+        level: PRIMARY_LEVEL,
+        pairs: 1 + operand.pairs,
+        ..operand
+    }
+}
