@@ -1,0 +1,11 @@
+mod Steps
+mod Fronts
+mod SoundDecls
+mod SoundStmts
+mod DeclaredNames
+mod SoundItems
+mod TakenDecls
+mod TakenStmts
+mod TakenItems
+mod Sources
+mod Depths

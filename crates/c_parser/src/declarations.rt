@@ -1,0 +1,227 @@
+//! Initialisers and declarations.
+
+ghost use Rattle.std.specs.Prelude.{◌≡◌, ◌≤◌, ◌<◌, ◌^◌, IfOk};
+ghost use Rattle.c_expr.specs.Readers.{readers};
+ghost use Rattle.c_expr.specs.Reads.{Reads};
+ghost use Rattle.c_parser.specs.Readers as reader;
+
+use c_expr::{Cursor, Failure, Names, begins_spec, declarator, expr, spec};
+use c_tokens::Mark;
+use c_tree::{Decl, Declarator, Expr, ForFirst, Init, InitDeclarator, Spec};
+use sqlite_items::Items;
+use std::alloc::Global;
+
+/// The level of the loosest expressions.
+pub(crate) const ASSIGN_LEVEL: usize = 0;
+
+/// An expression, if one stands before the mark, and the mark.
+#[tactic(auto, unfolding(crate::specs::Readers::option_to))]
+pub(crate) fn option_to(
+    alloc: Global,
+    names: &Names,
+    tokens: &mut Cursor<'_>,
+    depth: usize,
+    mark: Mark,
+) -> Result<(Option<Expr>, usize), Failure>
+    requires { depth < 2 ^ 31 }
+    ensures reads { Reads (reader.option_to names.now (readers names.now depth) mark tokens.old) result tokens.new }
+    ensures tall { IfOk result (λ o. o.1 ≤ depth) }
+{
+    if tokens.eat(mark) {
+        return Ok((None, 0));
+    }
+    let (expr, height) = expr(alloc, names, tokens, depth, ASSIGN_LEVEL)?;
+    tokens.expect(mark)?;
+    Ok((Some(expr), height))
+}
+
+/// The condition and the step of a `for`, and the closing parenthesis.
+#[tactic(auto, unfolding(crate::specs::Readers::for_tests))]
+pub(crate) fn for_tests(
+    alloc: Global,
+    names: &Names,
+    tokens: &mut Cursor<'_>,
+    depth: usize,
+) -> Result<((Option<Expr>, Option<Expr>), usize), Failure>
+    requires { depth < 2 ^ 31 }
+    ensures reads { Reads (reader.for_tests names.now (readers names.now depth) tokens.old) result tokens.new }
+    ensures tall { IfOk result (λ c. c.1 ≤ depth) }
+{
+    let (test, height) = option_to(alloc, names, tokens, depth, Mark::Semicolon)?;
+    let (step, step_height) = option_to(alloc, names, tokens, depth, Mark::RightParenthesis)?;
+    Ok(((test, step), height.max(step_height)))
+}
+
+/// An expression in parentheses.
+#[tactic(auto, unfolding(crate::specs::Readers::condition))]
+pub(crate) fn condition(
+    alloc: Global,
+    names: &Names,
+    tokens: &mut Cursor<'_>,
+    depth: usize,
+) -> Result<(Expr, usize), Failure>
+    requires { depth < 2 ^ 31 }
+    ensures reads { Reads (reader.condition names.now (readers names.now depth) tokens.old) result tokens.new }
+    ensures tall { IfOk result (λ c. c.1 ≤ depth) }
+{
+    tokens.expect(Mark::LeftParenthesis)?;
+    let read = expr(alloc, names, tokens, depth, ASSIGN_LEVEL)?;
+    tokens.expect(Mark::RightParenthesis)?;
+    Ok(read)
+}
+
+/// An initialiser.
+pub(crate) fn init(
+    alloc: Global,
+    names: &Names,
+    tokens: &mut Cursor<'_>,
+    depth: usize,
+) -> Result<(Init, usize), Failure>
+    requires { depth < 2 ^ 31 }
+    ensures reads { Reads (reader.init names.now depth tokens.old) result tokens.new }
+    ensures tall { IfOk result (λ i. i.1 ≤ depth) }
+{
+    if depth == 0 {
+        return Err(Failure::Mismatch);
+    }
+    if !tokens.eat(Mark::LeftBrace) {
+        let (expr, height) = expr(alloc, names, tokens, depth - 1, ASSIGN_LEVEL)?;
+        return Ok((Init::Expr(expr), 1 + height));
+    }
+    let mut parts = Items::new(alloc);
+    let mut height = 0;
+    for _turn in 0..tokens.left() {
+        let (part, its_height) = init(alloc, names, tokens, depth - 1)?;
+        parts.push(part)?;
+        height = height.max(its_height);
+        if !tokens.eat(Mark::Comma) {
+            tokens.expect(Mark::RightBrace)?;
+            return Ok((Init::Braces(parts), 1 + height));
+        }
+        if tokens.eat(Mark::RightBrace) {
+            return Ok((Init::Braces(parts), 1 + height));
+        }
+    }
+    Err(Failure::Mismatch)
+}
+
+/// A declarator that was read, with its initialiser, if it has one.
+#[tactic(auto, unfolding(crate::specs::Readers::with_init))]
+fn with_init(
+    alloc: Global,
+    names: &Names,
+    tokens: &mut Cursor<'_>,
+    depth: usize,
+    declarator: (Declarator, usize),
+) -> Result<(InitDeclarator, usize), Failure>
+    requires few { depth < 2 ^ 31 }
+    requires low { declarator.1 ≤ depth }
+    ensures reads { Reads (reader.with_init names.now (readers names.now depth) (reader.init names.now depth) declarator tokens.old) result tokens.new }
+    ensures tall { IfOk result (λ d. d.1 ≤ depth) }
+{
+    let (declarator, height) = declarator;
+    if !tokens.eat(Mark::Assign) {
+        let without = InitDeclarator {
+            declarator,
+            init: None,
+        };
+        return Ok((without, height));
+    }
+    let (init, init_height) = init(alloc, names, tokens, depth)?;
+    let with = InitDeclarator {
+        declarator,
+        init: Some(init),
+    };
+    Ok((with, height.max(init_height)))
+}
+
+/// What a declaration declares, from its first declarator on, which was read.
+fn declared(
+    alloc: Global,
+    names: &Names,
+    tokens: &mut Cursor<'_>,
+    depth: usize,
+    first: (Declarator, usize),
+) -> Result<(Items<InitDeclarator>, usize), Failure>
+    requires few { depth < 2 ^ 31 }
+    requires low { first.1 ≤ depth }
+    ensures reads { Reads (reader.declared names.now (readers names.now depth) (reader.init names.now depth) first tokens.old) result tokens.new }
+    ensures tall { IfOk result (λ ds. ds.1 ≤ depth) }
+{
+    let mut found = Items::new(alloc);
+    let mut height = 0;
+    let mut next = first;
+    for _turn in 0..tokens.left() {
+        let (with, its_height) = with_init(alloc, names, tokens, depth, next)?;
+        found.push(with)?;
+        height = height.max(its_height);
+        if !tokens.eat(Mark::Comma) {
+            return Ok((found, height));
+        }
+        next = declarator(alloc, names, tokens, depth)?;
+    }
+    Err(Failure::Mismatch)
+}
+
+/// A declaration from its first declarator on, which was read, as its spec was.
+#[tactic(auto, unfolding(crate::specs::Readers::decl_of))]
+pub(crate) fn decl_of(
+    alloc: Global,
+    names: &Names,
+    tokens: &mut Cursor<'_>,
+    depth: usize,
+    spec: (Spec, usize),
+    first: (Declarator, usize),
+) -> Result<(Decl, usize), Failure>
+    requires few { depth < 2 ^ 31 }
+    requires low { spec.1 ≤ depth }
+    requires first_low { first.1 ≤ depth }
+    ensures reads { Reads (reader.decl_of names.now (readers names.now depth) (reader.init names.now depth) spec first tokens.old) result tokens.new }
+    ensures tall { IfOk result (λ d. d.1 ≤ depth) }
+{
+    let (declarators, height) = declared(alloc, names, tokens, depth, first)?;
+    tokens.expect(Mark::Semicolon)?;
+    let (spec, spec_height) = spec;
+    Ok((Decl { spec, declarators }, spec_height.max(height)))
+}
+
+/// A declaration.
+#[tactic(auto, unfolding(crate::specs::Readers::decl))]
+pub(crate) fn decl(
+    alloc: Global,
+    names: &Names,
+    tokens: &mut Cursor<'_>,
+    depth: usize,
+) -> Result<(Decl, usize), Failure>
+    requires { depth < 2 ^ 31 }
+    ensures reads { Reads (reader.decl names.now (readers names.now depth) (reader.init names.now depth) tokens.old) result tokens.new }
+    ensures tall { IfOk result (λ d. d.1 ≤ depth) }
+{
+    let (spec, height) = spec(alloc, names, tokens, depth)?;
+    if tokens.eat(Mark::Semicolon) {
+        let declarators = Items::new(alloc);
+        return Ok((Decl { spec, declarators }, height));
+    }
+    let first = declarator(alloc, names, tokens, depth)?;
+    decl_of(alloc, names, tokens, depth, (spec, height), first)
+}
+
+/// The first part of a `for`, with its `;`.
+#[tactic(auto, unfolding(crate::specs::Readers::for_first))]
+pub(crate) fn for_first(
+    alloc: Global,
+    names: &Names,
+    tokens: &mut Cursor<'_>,
+    depth: usize,
+) -> Result<(ForFirst, usize), Failure>
+    requires { depth < 2 ^ 31 }
+    ensures reads { Reads (reader.for_first names.now (readers names.now depth) (reader.init names.now depth) tokens.old) result tokens.new }
+    ensures tall { IfOk result (λ f. f.1 ≤ depth) }
+{
+    if begins_spec(names, tokens) {
+        let (decl, height) = decl(alloc, names, tokens, depth)?;
+        return Ok((ForFirst::Decl(decl), height));
+    }
+    let (expr, height) = option_to(alloc, names, tokens, depth, Mark::Semicolon)?;
+    Ok((ForFirst::Expr(expr), height))
+}

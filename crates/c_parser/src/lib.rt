@@ -1,0 +1,18 @@
+//! Reads statements, items and whole sources from tokens.
+#![tactic(auto)]
+
+mod declarations;
+mod error;
+mod form;
+mod items;
+mod knot;
+mod laws;
+mod source;
+mod statements;
+#[cfg(test)]
+mod tests;
+mod words;
+
+pub use error::ParseRefusal;
+pub use laws::{items_are_told_apart, refusals_are_certain, sources_have_one_tree};
+pub use source::parse;
