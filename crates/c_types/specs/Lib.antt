@@ -1,0 +1,5 @@
+pub mod Kinds
+pub mod Parts
+pub mod Same
+pub mod Units
+pub mod Sound

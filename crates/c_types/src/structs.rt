@@ -1,0 +1,25 @@
+//! Structs and their members.
+
+use super::name::Name;
+use super::ty::Ty;
+use sqlite_items::Items;
+
+/// A member of a struct.
+#[derive(Debug, Drop)]
+pub struct Member {
+    pub name: Name,
+    pub ty: Ty,
+}
+
+/// Members in order.
+pub type MemberList = Items<Member>;
+
+/// A tag, and the members of its body, where it has one.
+#[derive(Debug, Drop)]
+pub struct StructDef {
+    pub name: Name,
+    pub members: Option<MemberList>,
+}
+
+/// Structs in the order of their numbers.
+pub type StructList = Items<StructDef>;

@@ -1,0 +1,6 @@
+//! Things in order, each found by its name.
+#![tactic(auto)]
+
+mod table;
+
+pub use table::{Named, Table};
