@@ -1,1 +1,8 @@
+mod Bodies
+mod Capped
+mod Fitting
+mod Growing
+mod LaidOut
+mod NamesBelow
 mod SameTypes
+mod StructsLemmas

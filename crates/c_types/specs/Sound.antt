@@ -6,7 +6,8 @@ use Rattle.c_types.specs.declared.ty.Ty.TheVariants as ty
 use Rattle.c_types.specs.declared.ty.Ty.TheOpen.{Ty-F, FnTy-F}
 use Rattle.c_types.specs.declared.structs.Member.{Member}
 use Rattle.c_types.specs.declared.structs.StructDef.{StructDef}
-use Rattle.c_types.specs.Units.{body_of, exact_units, has_units}
+use Rattle.c_types.specs.Structs.{body_of}
+use Rattle.c_types.specs.Units.{exact_units, has_units}
 
 -- ---- the structs that a type names, also behind pointers, are of the first so many
 

@@ -5,15 +5,11 @@ use Rattle.c_types.specs.declared.error.LayoutRefusal.{LayoutRefusal}
 use Rattle.c_types.specs.declared.error.LayoutRefusal.TheVariants.{Incomplete, TooLarge}
 use Rattle.c_types.specs.declared.ty.Ty.{Ty, fold-Ty}
 use Rattle.c_types.specs.declared.ty.Ty.TheOpen.{Ty-F}
-use Rattle.c_types.specs.declared.structs.Member.{Member}
 use Rattle.c_types.specs.declared.structs.StructDef.{StructDef}
+use Rattle.c_types.specs.Structs.{body_of}
 
 abbrev pub most_units : ℕ
 most_units = 65536
-
--- the members of a struct that has a body
-abbrev pub body_of : List StructDef → ℕ → Option (List Member)
-body_of defs s = option_and_then (λ d. d.members) (slice_get defs s)
 
 -- ---- exact units, without a limit; none of an incomplete type
 

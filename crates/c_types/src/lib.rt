@@ -1,12 +1,16 @@
 //! The names and types of the language, their units and their sameness.
 #![tactic(auto)]
 
+mod copies;
 mod error;
 mod kinds;
+mod layout;
 mod name;
 mod part_count;
 mod sameness;
+mod struct_table;
 mod structs;
+mod theorems;
 mod ty;
 
 pub use error::LayoutRefusal;
@@ -14,5 +18,9 @@ pub use kinds::{decay, is_function, is_integer, is_scalar, is_void};
 pub use name::{Name, copy_name};
 pub use part_count::parts;
 pub use sameness::{same, same_functions};
+pub use struct_table::{StructTable, copy_table};
 pub use structs::{Member, MemberList, StructDef, StructList};
+pub use theorems::{
+    same_is_equality, tables_are_sound, units_are_sums, units_stay,
+};
 pub use ty::{FnTy, Ty, TyList, copy_type};

@@ -71,6 +71,13 @@ impl<T: Named + Drop> Table<T> {
         self.items.is_empty()
     }
 
+    /// All of them.
+    pub fn as_slice(&self) -> &[T]
+        ensures { result.now ≡ self.now }
+    {
+        self.items.as_slice()
+    }
+
     /// The thing at this place, and none exactly where the place isn't below their number.
     pub fn get(&self, place: usize) -> Option<&T>
         ensures { option_copied result ≡ slice_get self.now place }
