@@ -1,12 +1,12 @@
 -- Where no struct stands deeper than there are bodies, the units of a struct are the sum of its members'.
-use Rattle.std.proofs.Common.{◌≡◌, ℕ, zero, suc, ◌+◌, ◌≤◌, ◌*◌, Bool, true, false, ◌||◌, nat_eq, List, [], ◌∷◌, map, length, Option, Some, None, is_some, refl, sym, ap, ◌∙◌, subst, arith}
+use Rattle.std.proofs.Common.{◌≡◌, ℕ, zero, suc, ◌+◌, ◌≤◌, ◌*◌, Bool, true, false, ◌||◌, List, [], ◌∷◌, map, length, Option, Some, None, is_some, refl, sym, ap, ◌∙◌, subst, arith}
 use Rattle.std.specs.Option.{option_map, option_and_then}
 use Rattle.std.specs.List.{list_any}
 use Rattle.std.proofs.lemmas.Bool.Decides.{Decides-eqb}
 use Rattle.std.proofs.lemmas.List.Sums.{count_by-le-length}
 use Rattle.c_types.specs.declared.ty.Ty.{Ty, roll-Ty, map-Ty, fold-roll-Ty, ind-Ty}
 use Rattle.c_types.specs.declared.ty.Ty.TheVariants as ty
-use Rattle.c_types.specs.declared.ty.Ty.TheOpen.{Ty-F, FnTy-F}
+use Rattle.c_types.specs.declared.ty.Ty.TheOpen.{Ty-F}
 use Rattle.c_types.specs.declared.ty.FnTy.{FnTy, fold-FnTy}
 use Rattle.c_types.specs.declared.structs.Member.{Member}
 use Rattle.c_types.specs.declared.structs.StructDef.{StructDef}
@@ -15,7 +15,7 @@ use Rattle.c_types.specs.Units.{sized, sized_step, total, struct_units, exact_un
 use Rattle.c_types.specs.Sound.{embeds, embeds_step, HasMemberOf, Contains, member, deeper}
 use Rattle.c_types.specs.Theorems.{UnitsAreSums, Extends}
 use Rattle.c_types.specs.inner.Layouts.{bodies}
-use Rattle.c_types.proofs.Growing.{Covers, Knows, BodiesStay, struct_units_more, total_more, sized_more, sized_int, sized_char, sized_void, sized_struct, sized_pointer, sized_array, sized_function}
+use Rattle.c_types.proofs.Growing.{Covers, BodiesStay, struct_units_more, total_more, sized_more, sized_int, sized_char, sized_void, sized_struct, sized_pointer, sized_array, sized_function}
 
 -- a value that is known
 pub record Known (o : Option ℕ) : Type 0 where
@@ -144,7 +144,7 @@ module _ (defs : List StructDef) (shallow : Shallow (bodies defs) defs) where
   body_units_by (suc k) below s ms body some =
       let v : Known (struct_units (suc k) defs s) = known (struct_units (suc k) defs s) some in
       let parts : total (map (λ m. sized (struct_units (length defs) defs) m.ty) ms) ≡ Some v.value =
-          total_more (struct_units k defs) (struct_units (length defs) defs) (struct_units_more defs defs (stay_self defs) k (length defs) (omega arith)) ms v.value (sym (opened defs k s ms body) ∙ v.is) in
+      total_more (struct_units k defs) (struct_units (length defs) defs) (struct_units_more defs defs (stay_self defs) k (length defs) (omega arith)) ms v.value (sym (opened defs k s ms body) ∙ v.is) in
       struct_units_more defs defs (stay_self defs) (suc k) (length defs) below s v.value v.is ∙ sym parts
 
   exact_body : (s : ℕ) (ms : List Member) → body_of defs s ≡ Some ms → exact_units defs (ty.Struct s) ≡ total (map (λ m. exact_units defs m.ty) ms)

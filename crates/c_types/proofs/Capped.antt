@@ -1,10 +1,10 @@
 -- Units up to the cap are the exact units, capped.
-use Rattle.std.proofs.Common.{◌≡◌, ◌⊎◌, ℕ, zero, suc, ◌+◌, ◌*◌, ◌≤◌, ◌<◌, min, List, [], ◌∷◌, Option, Some, None, refl, sym, ap, ◌∙◌, subst, inl, inr, arith}
+use Rattle.std.proofs.Common.{◌≡◌, ℕ, zero, suc, ◌+◌, ◌*◌, ◌≤◌, Option, Some, None, refl, sym, ap, ◌∙◌, subst, inl, inr, arith}
 use Rattle.std.specs.Option.{option_map}
 use Rattle.std.proofs.lemmas.Bool.{cases_lt}
-use Rattle.std.proofs.Math.Nat.{le-mul_of_pos_right, mul-le-mul_right}
+use Rattle.std.proofs.Math.Nat.{le-mul_of_pos_right}
 use Rattle.c_types.specs.declared.ty.Ty.{Ty, roll-Ty, map-Ty, fold-roll-Ty, ind-Ty}
-use Rattle.c_types.specs.declared.ty.Ty.TheOpen.{Ty-F, FnTy-F}
+use Rattle.c_types.specs.declared.ty.Ty.TheOpen.{Ty-F}
 use Rattle.c_types.specs.declared.ty.FnTy.{FnTy, fold-FnTy}
 use Rattle.c_types.specs.Units.{sized, sized_step}
 use Rattle.c_types.specs.inner.Layouts.{capped, kept, kept_step}
@@ -25,8 +25,8 @@ capped_times : (a b : ℕ) → capped (capped a * b) ≡ capped (a * b)
 capped_times a zero = omega arith
 capped_times a (suc b) =
     elim (cases_lt a 65537) [
-      inl low ↦ ap (λ n. capped (n * suc b)) (capped_low a (omega arith))
-    | inr high ↦ ap (λ n. capped (n * suc b)) (capped_high a high) ∙ capped_high (65537 * suc b) (high_times 65537 b (omega arith)) ∙ sym (capped_high (a * suc b) (high_times a b high))
+      | inl low ↦ ap (λ n. capped (n * suc b)) (capped_low a (omega arith))
+      | inr high ↦ ap (λ n. capped (n * suc b)) (capped_high a high) ∙ capped_high (65537 * suc b) (high_times 65537 b (omega arith)) ∙ sym (capped_high (a * suc b) (high_times a b high))
     ]
 
 times : (b : ℕ) (o p : Option ℕ) → o ≡ option_map capped p → option_map (λ n. capped (n * b)) o ≡ option_map capped (option_map (λ n. n * b) p)

@@ -134,7 +134,7 @@ module _ (defs more : List StructDef) (stay : (t : Ty) → Covers (exact_units d
   layout_of_more ms fit = ap (λ us. record { units = capped (sum us); offsets = map capped (sums_before 0 us); names = map (λ m. m.name) ms }) (member_units_more ms fit)
 
   module _ (longer : length defs ≤ length more) where
-    is_member_type_more : (t : Ty) → is_member_type defs t ≡ true → is_member_type more t ≡ true
+    pub is_member_type_more : (t : Ty) → is_member_type defs t ≡ true → is_member_type more t ≡ true
     unfolding is_member_type
     is_member_type_more t is =
         let parts : (has_units defs t ≡ true) × (names_below (length defs) t ≡ true) = both (has_units defs t) (names_below (length defs) t) is in

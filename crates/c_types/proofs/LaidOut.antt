@@ -1,5 +1,5 @@
 -- A table that is laid out: what is stored is what the definitions say, and it stays so.
-use Rattle.std.proofs.Common.{◌≡◌, ◌≢◌, ◌⊎◌, ℕ, zero, suc, ◌+◌, ◌≤◌, ◌<◌, ◌^◌, min, Bool, true, false, if◌then◌else◌, nat_le, List, [], ◌∷◌, ◌++◌, length, map, take, sum, Option, Some, None, unwrap_or, is_some, Result, Ok, Err, refl, sym, ap, ◌∙◌, subst, inl, inr, arith, append_assoc, append-nil, zero-add, add-zero, add_assoc}
+use Rattle.std.proofs.Common.{◌≡◌, ◌⊎◌, ℕ, suc, ◌+◌, ◌<◌, ◌^◌, true, List, [], ◌∷◌, ◌++◌, length, map, take, sum, Option, Some, None, unwrap_or, is_some, Ok, Err, refl, sym, ap, ◌∙◌, subst, inl, inr, arith, append_assoc, append-nil, zero-add, add-zero, add_assoc}
 use Rattle.std.proofs.Math.ListN.{set}
 use Rattle.std.specs.Option.{option_map, option_and_then, ok_or}
 use Rattle.std.specs.List.{slice_get}
@@ -7,20 +7,19 @@ use Rattle.std.proofs.lemmas.Bool.{cases_eq}
 use Rattle.std.proofs.lemmas.Bool.Decides.{nat_tests}
 use Rattle.std.proofs.lemmas.List.{length-map}
 use Rattle.std.proofs.lemmas.Option.{slice_get-map}
-use Rattle.c_types.specs.declared.error.LayoutRefusal.{LayoutRefusal}
-use Rattle.c_types.specs.declared.error.LayoutRefusal.TheVariants.{Incomplete, TooLarge}
+use Rattle.c_types.specs.declared.error.LayoutRefusal.TheVariants.{Incomplete}
 use Rattle.c_types.specs.declared.layout.Layout.{Layout}
 use Rattle.c_types.specs.declared.ty.Ty.{Ty}
 use Rattle.c_types.specs.declared.ty.Ty.TheVariants as ty
 use Rattle.c_types.specs.declared.structs.Member.{Member}
 use Rattle.c_types.specs.declared.structs.StructDef.{StructDef}
 use Rattle.c_types.specs.Structs.{body_of, with_tag, with_body, member_named}
-use Rattle.c_types.specs.Units.{most_units, sized, total, struct_units, exact_units, limited, units_of, sum_of, offset_of}
+use Rattle.c_types.specs.Units.{struct_units, exact_units, limited, units_of, sum_of, offset_of}
 use Rattle.c_types.specs.Sound.{is_member_type, are_members, IsSound}
 use Rattle.c_types.specs.Theorems.{UnitsAreSums, Extends}
 use Rattle.c_types.specs.inner.Layouts.{capped, layout_at, stored_units, kept, kept_or_none, layout_from, sums_before, member_units, layout_of, layout_in, tag_of, bodies, IsLaidOut}
 use Rattle.c_types.proofs.Growing.{Covers, Knows, struct_units_more, total_more, sized_struct}
-use Rattle.c_types.proofs.Capped.{capped_sum, kept_sized}
+use Rattle.c_types.proofs.Capped.{kept_sized}
 use Rattle.c_types.proofs.Fitting.{both, sum_cons, Allowed, member_allowed, unit_of, head_is, total_fit, sum_fit, sums_before_at, layout_of_more, are_members_more}
 use Rattle.c_types.proofs.Bodies.{Known, known, covered, Shallow, unknown, opened, units_are_sums, bodies_have_units, none_contains_itself, units_stay, bodies_le}
 use Rattle.c_types.proofs.StructsLemmas.{body_tagged, length_tagged, extends_tagged, bodies_tagged, map_tagged, body_here, body_there, length_bodied, tags_bodied, bodies_bodied, layouts_bodied, place_of_mapped}
@@ -179,12 +178,12 @@ module _ (defs : List StructDef) (tags : List (List ℕ)) (layouts : List (Optio
       let u : ℕ = unit_of defs m in
       let us : List ℕ = member_units defs ms in
       ap (λ c. layout_from (kept_or_none layouts) c (offsets ++ capped n ∷ []) (names ++ m.name ∷ []) ms)
-          (ap (λ k. capped (capped n + k)) (unit_kept m (member_allowed defs m.ty parts.0)) ∙ capped_two n u)
+      (ap (λ k. capped (capped n + k)) (unit_kept m (member_allowed defs m.ty parts.0)) ∙ capped_two n u)
       ∙ from_is (n + u) (offsets ++ capped n ∷ []) (names ++ m.name ∷ []) ms parts.1
       ∙ same_layout
-          (ap capped (add_assoc n u (sum us) ∙ ap (λ k. n + k) (sym (sum_cons u us))))
-          (append_assoc offsets (capped n ∷ []) (map capped (sums_before (n + u) us)))
-          (append_assoc names (m.name ∷ []) (map (λ m. m.name) ms))
+      (ap capped (add_assoc n u (sum us) ∙ ap (λ k. n + k) (sym (sum_cons u us))))
+      (append_assoc offsets (capped n ∷ []) (map capped (sums_before (n + u) us)))
+      (append_assoc names (m.name ∷ []) (map (λ m. m.name) ms))
 
   pub layout_is : (ms : List Member) → are_members defs ms ≡ true → layout_from (kept_or_none layouts) 0 [] [] ms ≡ layout_of defs ms
   layout_is ms fit = from_is 0 [] [] ms fit ∙ same_layout (ap capped (zero-add (sum (member_units defs ms)))) refl refl
@@ -218,8 +217,8 @@ module _ (defs : List StructDef) (tags : List (List ℕ)) (layouts : List (Optio
     shallow = λ s ms body.
         subst (λ k. is_some (struct_units k (with_tag defs tag) s) ≡ true) (sym (bodies_tagged defs tag))
         (covered (struct_units (bodies defs) defs s) (struct_units (bodies defs) (with_tag defs tag) s)
-            (struct_units_more defs (with_tag defs tag) (extends_tagged defs tag).bodies (bodies defs) (bodies defs) (omega arith) s)
-            (laid.shallow s ms (sym (body_tagged defs tag s) ∙ body)));
+        (struct_units_more defs (with_tag defs tag) (extends_tagged defs tag).bodies (bodies defs) (bodies defs) (omega arith) s)
+        (laid.shallow s ms (sym (body_tagged defs tag s) ∙ body)));
   }
 
 module _ (defs : List StructDef) (s : ℕ) (ms : List Member) (below : s < length defs) (none : body_of defs s ≡ None) where
@@ -287,7 +286,7 @@ module _ (defs : List StructDef) (tags : List (List ℕ)) (layouts : List (Optio
       let more : List StructDef = with_body defs s ms in
       let extends : Extends defs (with_body defs s ms) = extends_bodied defs s ms below none in
       let here : layout ≡ layout_of (with_body defs s ms) ms =
-          is ∙ layout_is defs tags layouts laid ms fit ∙ sym (layout_of_more defs (with_body defs s ms) (units_stay defs (with_body defs s ms) extends) ms fit) in
+      is ∙ layout_is defs tags layouts laid ms fit ∙ sym (layout_of_more defs (with_body defs s ms) (units_stay defs (with_body defs s ms) extends) ms fit) in
       record {
         few = let l : length (with_body defs s ms) ≡ length defs = length_bodied defs s ms in let before : length defs < 2 ^ 32 = laid.few in omega arith;
         few_members = each_bodied defs s ms below none (λ ns. length ns < 2 ^ 32) few laid.few_members;

@@ -1,11 +1,11 @@
 -- Structs of the first so many are of the first of more.
-use Rattle.std.proofs.Common.{◌≡◌, ℕ, ◌≤◌, ◌<◌, Bool, true, false, ◌&&◌, nat_lt, List, [], ◌∷◌, map, refl, sym, ap, ◌∙◌, subst, arith}
+use Rattle.std.proofs.Common.{◌≡◌, ℕ, ◌≤◌, ◌<◌, Bool, true, false, ◌&&◌, List, [], ◌∷◌, map, refl, sym, ap, ◌∙◌, subst, arith}
 use Rattle.std.specs.List.{list_all}
 use Rattle.std.proofs.lemmas.Bool.{ltb-true, lt-ltb}
-use Rattle.c_types.specs.declared.ty.Ty.{Ty, roll-Ty, map-Ty, fold-Ty, fold-roll-Ty, ind-Ty}
+use Rattle.c_types.specs.declared.ty.Ty.{Ty, roll-Ty, map-Ty, fold-roll-Ty, ind-Ty}
 use Rattle.c_types.specs.declared.ty.Ty.TheOpen.{Ty-F, FnTy-F}
 use Rattle.c_types.specs.declared.ty.FnTy.{FnTy, roll-FnTy, map-FnTy, fold-FnTy, fold-roll-FnTy}
-use Rattle.c_types.specs.Sound.{names_below, names_below_step, function_names_below}
+use Rattle.c_types.specs.Sound.{names_below, names_below_step, function_step}
 
 both_more : (a b c d : Bool) → (a ≡ true → c ≡ true) → (b ≡ true → d ≡ true) → (a && b) ≡ true → (c && d) ≡ true
 both_more true b c d ac bd is = ap (λ e. e && d) (ac refl) ∙ bd is
@@ -16,7 +16,7 @@ along {a} {b} {c} {d} ab cd more is = cd ∙ more (sym ab ∙ is)
 
 module _ (few many : ℕ) (more : few ≤ many) where
   abbrev fn_below : ℕ → FnTy → Bool
-  fn_below count = fold-FnTy Bool Bool (names_below_step count) function_names_below
+  fn_below count = fold-FnTy Bool Bool (names_below_step count) function_step
 
   abbrev Stays : Ty → Type 0
   Stays t = names_below few t ≡ true → names_below many t ≡ true
@@ -38,11 +38,11 @@ module _ (few many : ℕ) (more : few ≤ many) where
 
   rolled : (count : ℕ) (y : Ty-F Ty FnTy) → names_below count (roll-Ty y) ≡ names_below_step count (map-Ty Ty FnTy Bool Bool (names_below count) (fn_below count) y)
   unfolding names_below
-  rolled count y = fold-roll-Ty Bool Bool (names_below_step count) function_names_below y
+  rolled count y = fold-roll-Ty Bool Bool (names_below_step count) function_step y
 
-  rolled_fn : (count : ℕ) (y : FnTy-F Ty FnTy) → fn_below count (roll-FnTy y) ≡ function_names_below (map-FnTy Ty FnTy Bool Bool (names_below count) (fn_below count) y)
+  rolled_fn : (count : ℕ) (y : FnTy-F Ty FnTy) → fn_below count (roll-FnTy y) ≡ function_step (map-FnTy Ty FnTy Bool Bool (names_below count) (fn_below count) y)
   unfolding names_below
-  rolled_fn count y = fold-roll-FnTy Bool Bool (names_below_step count) function_names_below y
+  rolled_fn count y = fold-roll-FnTy Bool Bool (names_below_step count) function_step y
 
   step : (y : Ty-F Held HeldFn) → names_below_step few (map-Ty Ty FnTy Bool Bool (names_below few) (fn_below few) (bare y)) ≡ true → names_below_step many (map-Ty Ty FnTy Bool Bool (names_below many) (fn_below many) (bare y)) ≡ true
   step Ty-F.Int is = refl
@@ -58,7 +58,7 @@ module _ (few many : ℕ) (more : few ≤ many) where
   all_more (h ∷ hs) is =
       both_more (names_below few h.0) (list_all (λ b. b) (map (names_below few) (map (λ (e : Held). e.0) hs))) (names_below many h.0) (list_all (λ b. b) (map (names_below many) (map (λ (e : Held). e.0) hs))) h.1 (all_more hs) is
 
-  step_fn : (y : FnTy-F Held HeldFn) → function_names_below (map-FnTy Ty FnTy Bool Bool (names_below few) (fn_below few) (bare_fn y)) ≡ true → function_names_below (map-FnTy Ty FnTy Bool Bool (names_below many) (fn_below many) (bare_fn y)) ≡ true
+  step_fn : (y : FnTy-F Held HeldFn) → function_step (map-FnTy Ty FnTy Bool Bool (names_below few) (fn_below few) (bare_fn y)) ≡ true → function_step (map-FnTy Ty FnTy Bool Bool (names_below many) (fn_below many) (bare_fn y)) ≡ true
   step_fn y is =
       both_more (names_below few y.result.0) (list_all (λ b. b) (map (names_below few) (map (λ (e : Held). e.0) y.params))) (names_below many y.result.0) (list_all (λ b. b) (map (names_below many) (map (λ (e : Held). e.0) y.params))) y.result.1 (all_more y.params) is
 

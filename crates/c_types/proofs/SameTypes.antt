@@ -111,9 +111,9 @@ exact_fn : (y : FnTy-F Held HeldFn) → ExactFn (roll-FnTy (bare_fn y))
 exact_fn y = (
   λ g is. ap roll-FnTy (equal_fn y (out-FnTy g) (sym (same_function_rolled (bare_fn y) g) ∙ is)) ∙ roll-out-FnTy g,
   same_function_rolled (bare_fn y) (roll-FnTy (bare_fn y))
-  ∙ ap (λ (z : FnTy-F Ty FnTy). same y.result.0 z.result && agree (map same (types y.params)) z.params) (out-roll-FnTy (bare_fn y))
-  ∙ ap (λ b. b && agree (map same (types y.params)) (types y.params)) y.result.1.1
-  ∙ same_list y.params,
+      ∙ ap (λ (z : FnTy-F Ty FnTy). same y.result.0 z.result && agree (map same (types y.params)) z.params) (out-roll-FnTy (bare_fn y))
+      ∙ ap (λ b. b && agree (map same (types y.params)) (types y.params)) y.result.1.1
+      ∙ same_list y.params,
 )
 
 same_exact : (t : Ty) → Exact t

@@ -1,9 +1,10 @@
 -- What holds of each table of structs.
-use Rattle.std.specs.Prelude.{◌≡◌, ℕ, Bool, true, false, ◌&&◌, IsTrue, nat_eq, nat_lt, List, [], ◌∷◌, length, Option, Some, None, is_some}
+use Rattle.std.specs.Prelude.{◌≡◌, ◌<◌, ℕ, Bool, true, false, ◌&&◌, IsTrue, nat_eq, nat_lt, List, length, Some, None, is_some}
 use Rattle.std.specs.List.{list_all, list_any}
 use Rattle.c_types.specs.declared.ty.Ty.{Ty, fold-Ty}
 use Rattle.c_types.specs.declared.ty.Ty.TheVariants as ty
 use Rattle.c_types.specs.declared.ty.Ty.TheOpen.{Ty-F, FnTy-F}
+use Rattle.c_types.specs.declared.ty.FnTy.{FnTy, fold-FnTy}
 use Rattle.c_types.specs.declared.structs.Member.{Member}
 use Rattle.c_types.specs.declared.structs.StructDef.{StructDef}
 use Rattle.c_types.specs.Structs.{body_of}
@@ -18,11 +19,14 @@ names_below_step count (Ty-F.Array element bound) = element
 names_below_step count (Ty-F.Function f) = f
 names_below_step count _ = true
 
-abbrev pub function_names_below : FnTy-F Bool Bool → Bool
-function_names_below f = f.result && list_all (λ b. b) f.params
+abbrev pub function_step : FnTy-F Bool Bool → Bool
+function_step f = f.result && list_all (λ b. b) f.params
 
 unfoldable pub names_below : ℕ → Ty → Bool
-names_below count = fold-Ty Bool Bool (names_below_step count) function_names_below
+names_below count = fold-Ty Bool Bool (names_below_step count) function_step
+
+unfoldable pub function_names_below : ℕ → FnTy → Bool
+function_names_below count = fold-FnTy Bool Bool (names_below_step count) function_step
 
 -- ---- which structs contain which
 
@@ -54,6 +58,12 @@ is_member_type defs t = has_units defs t && names_below (length defs) t
 
 abbrev pub are_members : List StructDef → List Member → Bool
 are_members defs = list_all (λ m. is_member_type defs m.ty)
+
+-- the struct may get this body
+pub record CanDefine (defs : List StructDef) (s : ℕ) (ms : List Member) : Type 0 where
+  pub declared : s < length defs
+  pub no_body : body_of defs s ≡ None
+  pub members : IsTrue (are_members defs ms)
 
 pub record IsSound (defs : List StructDef) : Type 0 where
   -- so each struct's members have units that aren't refused and name structs of the table

@@ -1,5 +1,5 @@
 -- The units of types and the offsets of members: sums over members, products over elements.
-use Rattle.std.specs.Prelude.{ℕ, zero, suc, ◌+◌, ◌*◌, Bool, if◌then◌else◌, nat_le, List, [], ◌∷◌, length, map, take, Option, Some, None, unwrap_or, Result, Ok, Err, is_ok, slice_get}
+use Rattle.std.specs.Prelude.{ℕ, zero, suc, ◌+◌, ◌*◌, Bool, if◌then◌else◌, nat_le, List, [], ◌∷◌, length, map, take, Option, Some, None, unwrap_or, Result, Ok, Err, is_ok}
 use Rattle.std.specs.Option.{option_map, option_and_then, ok_or}
 use Rattle.c_types.specs.declared.error.LayoutRefusal.{LayoutRefusal}
 use Rattle.c_types.specs.declared.error.LayoutRefusal.TheVariants.{Incomplete, TooLarge}

@@ -6,6 +6,7 @@ mod error;
 mod kinds;
 mod layout;
 mod name;
+mod named_structs;
 mod part_count;
 mod sameness;
 mod struct_table;
@@ -20,7 +21,5 @@ pub use part_count::parts;
 pub use sameness::{same, same_functions};
 pub use struct_table::{StructTable, copy_table};
 pub use structs::{Member, MemberList, StructDef, StructList};
-pub use theorems::{
-    same_is_equality, tables_are_sound, units_are_sums, units_stay,
-};
+pub use theorems::{same_is_equality, tables_are_sound, tables_grow, units_are_sums, units_stay};
 pub use ty::{FnTy, Ty, TyList, copy_type};

@@ -4,14 +4,16 @@ ghost use Rattle.std.specs.Prelude.{◌≡◌, ◌<◌, ◌↔◌, [], None, len
 ghost use Rattle.std.specs.Option.{option_copied};
 ghost use Rattle.c_types.specs.Structs.{body_of, with_tag, with_body, struct_named, member_named};
 ghost use Rattle.c_types.specs.Units.{units_of, offset_of, limited};
-ghost use Rattle.c_types.specs.Sound.{are_members, IsSound};
+ghost use Rattle.c_types.specs.Sound as spec;
+ghost use Rattle.c_types.specs.Sound.{CanDefine, IsSound};
 ghost use Rattle.c_types.specs.Theorems.{UnitsAreSums};
 
 use crate::copies::{copy_defs, copy_layouts, copy_names};
 use crate::error::LayoutRefusal;
 use crate::layout::{Layout, capped_units, layout_at, layout_of};
 use crate::name::{Name, copy_name};
-use crate::structs::{MemberList, StructDef, StructList};
+use crate::named_structs::names_below;
+use crate::structs::{Member, MemberList, StructDef, StructList};
 use crate::ty::Ty;
 use sqlite_items::Items;
 use std::alloc::{AllocError, Global};
@@ -150,15 +152,44 @@ impl StructTable {
         Ok(number as u32)
     }
 
+    /// Whether a member may have this type: its units aren't refused, and each struct that it names
+    /// is of the table.
+    #[tactic(auto, unfolding(crate::specs::Sound::is_member_type, crate::specs::Units::has_units))]
+    pub fn is_member_type(&self, ty: &Ty) -> bool
+        ensures { result ≡ spec.is_member_type self.now ty.now }
+    {
+        self.units(ty).is_ok() && names_below(self.len(), ty)
+    }
+
+    /// Whether each of these members has such a type.
+    fn are_members(&self, members: &[Member]) -> bool
+        ensures { result ≡ spec.are_members self.now members.now }
+    {
+        for member in members {
+            if !self.is_member_type(&member.ty) {
+                return false;
+            }
+        }
+        true
+    }
+
+    /// Whether `define` may give this struct these members.
+    pub fn can_define(&self, s: u32, members: &MemberList) -> bool
+        ensures { IsTrue result ↔ CanDefine self.now s members.now }
+    {
+        match self.get(s) {
+            Some(def) => def.members.is_none() && self.are_members(members.as_slice()),
+            None => false,
+        }
+    }
+
     /// Gives a struct its body.
     ///
     /// # Errors
     ///
     /// `AllocError`, where no memory is left. The table is then as it was.
     pub fn define(&mut self, s: u32, members: MemberList) -> Result<(), AllocError>
-        requires declared { s < length self.old }
-        requires no_body { body_of self.old s ≡ None }
-        requires members { IsTrue (are_members self.old members) }
+        requires { CanDefine self.old s members }
         ensures ok { OnOk result (self.new ≡ with_body self.old s members) }
         ensures err { OnErr result (self.new ≡ self.old) }
     {

@@ -26,7 +26,7 @@ pub enum Ty {
 #[cycle(types)]
 pub struct FnTy {
     pub result: Ty,
-    pub params: Items<Ty>,
+    pub params: TyList,
 }
 
 /// Types in order.

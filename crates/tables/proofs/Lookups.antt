@@ -1,5 +1,5 @@
 -- What a map with byte keys finds behind an insertion.
-use Rattle.std.proofs.Common.{◌≡◌, ℕ, Bool, true, false, cond, List, [], ◌∷◌, Option, Some, refl, sym, ap, ◌∙◌}
+use Rattle.std.proofs.Common.{◌≡◌, ℕ, Bool, true, false, cond, List, [], ◌∷◌, Some, refl, sym, ap, ◌∙◌}
 use Rattle.std.specs.declared.cmp.Ordering.{Ordering}
 use Rattle.std.specs.declared.cmp.Ordering.TheVariants.{Less, Equal, Greater}
 use Rattle.std.specs.Ordering.{is_eq, nat_cmp, match_ordering}
@@ -55,7 +55,7 @@ module _ {K V : Type 0} (items : K → List ℕ) where
   lookup_by : (x : List ℕ) (key first : K) (v w : V) (es : List (K × V)) (o : Ordering) → by_items items key first ≡ o
       → lookup (has_items items x) (insert_entry (by_items items) es key v) ≡ cond (has_items items x key) (Some v) (lookup (has_items items x) es)
       → lookup (has_items items x) (match_ordering o ((key, v) ∷ (first, w) ∷ es) ((first, v) ∷ es) ((first, w) ∷ insert_entry (by_items items) es key v))
-          ≡ cond (has_items items x key) (Some v) (cond (has_items items x first) (Some w) (lookup (has_items items x) es))
+      ≡ cond (has_items items x key) (Some v) (cond (has_items items x first) (Some w) (lookup (has_items items x) es))
   lookup_by x key first v w es Less order behind = refl
   lookup_by x key first v w es Equal order behind =
       cond_twice (has_items items x first) (Some v) (Some w) (lookup (has_items items x) es)

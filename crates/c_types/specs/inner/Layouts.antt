@@ -1,5 +1,5 @@
 -- What a table stores beside its structs, which is what the definitions say.
-use Rattle.std.specs.Prelude.{◌≡◌, ℕ, zero, suc, ◌+◌, ◌*◌, ◌<◌, ◌^◌, min, Bool, IsTrue, List, [], ◌∷◌, ◌++◌, length, map, sum, count_by, Option, Some, None, unwrap_or, is_some, slice_get}
+use Rattle.std.specs.Prelude.{◌≡◌, ℕ, ◌+◌, ◌*◌, ◌<◌, ◌^◌, min, IsTrue, List, [], ◌∷◌, ◌++◌, length, map, sum, count_by, Option, Some, None, unwrap_or, is_some, slice_get}
 use Rattle.std.specs.Option.{option_map, option_and_then}
 use Rattle.c_types.specs.declared.layout.Layout.{Layout}
 use Rattle.c_types.specs.declared.ty.Ty.{Ty, fold-Ty}

@@ -1,4 +1,4 @@
-use Rattle.std.proofs.Common.{◌≡◌, ℕ, drop}
+use Rattle.std.proofs.Common.{◌≡◌, drop}
 use Rattle.c_types.specs.Same.{all_same}
 use Rattle.c_types.proofs.sameness.+same.Given as goal
 

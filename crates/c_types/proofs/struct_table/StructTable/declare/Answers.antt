@@ -1,4 +1,4 @@
-use Rattle.std.proofs.Common.{sym, ap, ◌∙◌, ◌<◌, ◌^◌, suc, length, arith}
+use Rattle.std.proofs.Common.{◌<◌, ◌^◌, suc, length, arith}
 use Rattle.c_types.proofs.LaidOut.{laid_declared}
 use Rattle.c_types.proofs.struct_table.StructTable.declare.Goals as goal
 

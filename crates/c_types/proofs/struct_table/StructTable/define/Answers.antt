@@ -14,15 +14,15 @@ bodied c =
     let declared : c.args.s < length c.self.inside.defs = rw c.self.view_is c.requires.declared in
     let below : c.args.s < length c.as_slice-3.result.now = rw c.as_slice-3.ensures declared in
     let at : slice_get c.self.inside.defs c.args.s ≡ Some before =
-        rw (← c.as_slice-3.ensures) (slice_get-get_or c.as_slice-3.result.now c.args.s c.index-as_slice-s.result below) in
+    rw (← c.as_slice-3.ensures) (slice_get-get_or c.as_slice-3.result.now c.args.s c.index-as_slice-s.result below) in
     c.set.ensures ∙ set_bodied c.self.inside.defs c.args.s before c.in_ok-name.name c.args.members at c.in_ok-name.ensures
 
 pub invariant_of-self : goal.invariant_of-self
 invariant_of-self c =
     rw (bodied c, c.set-2.ensures)
     (laid_defined c.self.inside.defs c.self.inside.tags c.self.inside.layouts c.self.invariant c.args.s c.args.members
-        (rw c.self.view_is c.requires.declared) (rw c.self.view_is c.requires.no_body) (rw c.self.view_is c.requires.members) (omega arith)
-        c.in_ok-layout.layout (rw (c.as_slice.ensures, c.as_slice-2.ensures) at c.in_ok-layout.ensures))
+    (rw c.self.view_is c.requires.declared) (rw c.self.view_is c.requires.no_body) (rw c.self.view_is c.requires.members) (omega arith)
+    c.in_ok-layout.layout (rw (c.as_slice.ensures, c.as_slice-2.ensures) at c.in_ok-layout.ensures))
 
 pub returns-clause-ok : goal.returns-clause-ok
 returns-clause-ok c = rw (← c.self.view_is) (bodied c)

@@ -1,4 +1,4 @@
-use Rattle.std.proofs.Common.{sym, ap, ◌∙◌}
+use Rattle.std.proofs.Common.{◌∙◌}
 use Rattle.c_types.proofs.LaidOut.{tag_found}
 use Rattle.c_types.proofs.struct_table.StructTable.find.Goals as goal
 

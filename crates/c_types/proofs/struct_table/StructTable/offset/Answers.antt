@@ -1,4 +1,4 @@
-use Rattle.std.proofs.Common.{sym, ap, ◌∙◌}
+use Rattle.std.proofs.Common.{sym}
 use Rattle.c_types.proofs.LaidOut.{offset_answer, offset_there}
 use Rattle.c_types.proofs.struct_table.StructTable.offset.Goals as goal
 

@@ -1,4 +1,3 @@
-use Rattle.std.proofs.Common.{sym, ◌∙◌, subst, ℕ, ◌<◌, Option, IfSome, length}
 use Rattle.tables.proofs.PlacesLemmas.{place_of_below}
 use Rattle.tables.proofs.table.Table.find.Goals as goal
 

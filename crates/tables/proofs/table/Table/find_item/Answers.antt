@@ -1,6 +1,3 @@
-use Rattle.std.proofs.Common.{sym, ap, ◌∙◌, Option, ℕ}
-use Rattle.std.specs.Option.{option_and_then}
-use Rattle.std.specs.List.{slice_get}
 use Rattle.tables.proofs.PlacesLemmas.{first_named_at}
 use Rattle.tables.proofs.table.Table.find_item.Goals as goal
 
