@@ -11,8 +11,8 @@ use Rattle.c_tokens.specs.declared.token.Mark.TheVariants as mark
 use Rattle.c_tree.specs.declared.expression.Expr.{Expr}
 use Rattle.c_tree.specs.declared.expression.Spec.{Spec}
 use Rattle.c_tree.specs.declared.expression.TypeWord.{TypeWord}
-use Rattle.c_tree.specs.declared.expression.UnaryOperator.{UnaryOperator}
-use Rattle.c_tree.specs.declared.expression.UnaryOperator.TheVariants as unary
+use Rattle.c_tree.specs.declared.operator.UnaryOperator.{UnaryOperator}
+use Rattle.c_tree.specs.declared.operator.UnaryOperator.TheVariants as unary
 use Rattle.c_tree.specs.Marks.{Kinds, wrapped, unary_mark}
 use Rattle.c_tree.specs.Grammar.{IsFree, SpecReads, TypeWordReads, ExprReads, ExprForm}
 

@@ -8,8 +8,8 @@ use Rattle.c_tokens.specs.declared.token.Kind.{Kind}
 use Rattle.c_tokens.specs.declared.token.Kind.TheVariants.{Word, Name, Number, Text, Mark}
 use Rattle.c_tokens.specs.declared.token.Mark.{Mark as MarkName}
 use Rattle.c_tokens.specs.declared.token.Mark.TheVariants as mark
-use Rattle.c_tree.specs.declared.expression.UnaryOperator.{UnaryOperator}
-use Rattle.c_tree.specs.declared.expression.UnaryOperator.TheVariants as unary
+use Rattle.c_tree.specs.declared.operator.UnaryOperator.{UnaryOperator}
+use Rattle.c_tree.specs.declared.operator.UnaryOperator.TheVariants as unary
 use Rattle.c_tree.specs.declared.expression.Expr.{Expr}
 use Rattle.c_tree.specs.Marks.{Kinds, wrapped, greatest_pairs, unary_mark, assign_level, cast_level, unary_level, primary_level}
 use Rattle.c_tree.specs.Grammar.{ExprReads, ExprForm}

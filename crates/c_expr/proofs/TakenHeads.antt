@@ -3,8 +3,8 @@ use Rattle.std.proofs.Common.{◌≡◌, ℕ, ℤ, zero, suc, ◌+◌, ◌≤◌
 use Rattle.c_tokens.specs.declared.token.Keyword.TheVariants as word
 use Rattle.c_tokens.specs.declared.token.Kind.TheVariants.{Word, Name, Number, Text, Mark}
 use Rattle.c_tokens.specs.declared.token.Mark.TheVariants as mark
-use Rattle.c_tree.specs.declared.expression.UnaryOperator.{UnaryOperator}
-use Rattle.c_tree.specs.declared.expression.UnaryOperator.TheVariants as unary
+use Rattle.c_tree.specs.declared.operator.UnaryOperator.{UnaryOperator}
+use Rattle.c_tree.specs.declared.operator.UnaryOperator.TheVariants as unary
 use Rattle.c_tree.specs.declared.expression.Expr.{Expr}
 use Rattle.c_tree.specs.declared.expression.Expr.TheVariants as e
 use Rattle.c_tree.specs.declared.expression.TypeWord.{TypeWord}
@@ -83,7 +83,7 @@ module _ (names : List (List ℕ)) (r : Readers) (n least k : ℕ) where
   abbrev pub Leads : Kinds → Operand → Kinds → Type 0
   Leads ts o rest = level_in names r n least k ts ≡ close names r n least k o rest
 
-  pub name_leads : (x : List ℕ) (rest : Kinds) → IsFree names x → Leads (Name x ∷ rest) (leaf (e.Name x)) rest
+  pub name_leads : (x : List ℕ) (rest : Kinds) → IsFree names x → Leads (Name x ∷ rest) (leaf (e.Identifier x)) rest
   unfolding head
   name_leads x rest free = level_in_head names r n least k (Name x) rest _ rest refl (rw (free_is_no_type_name names x free))
 

@@ -13,7 +13,7 @@ use crate::front::{free_name, looks_named, name_of};
 use crate::grammar::Grammar;
 use crate::names::Names;
 use c_tokens::{Keyword, Kind, Mark};
-use c_tree::{Expr, Member, Param, Params, Spec, TypeWord};
+use c_tree::{Expr, MemberDecl, Param, Params, Spec, TypeWord};
 use c_types::Name;
 use sqlite_items::Items;
 use std::alloc::Global;
@@ -26,7 +26,7 @@ where
     /// One line of a struct's body.
     #[cycle(spec)]
     #[tactic(auto, unfolding(crate::specs::Readers::member))]
-    fn member(&self, tokens: &mut Cursor<'_>) -> Result<(Member, usize), Failure>
+    fn member(&self, tokens: &mut Cursor<'_>) -> Result<(MemberDecl, usize), Failure>
         requires nests { Nests self.now.depth (F.pre self.now.expr) (F.post self.now.expr) (G.pre self.now.params) (G.post self.now.params) }
         ensures reads { Reads (reader.member self.now.names.now (below self.now.names.now self.now.depth) tokens.old) result tokens.new }
         ensures tall { IfOk result (λ m. m.1 < self.now.depth) }
@@ -38,12 +38,12 @@ where
         let (spec, spec_height) = inner.spec(tokens, true)?;
         let (declarators, height) = inner.declarators(tokens)?;
         tokens.expect(Mark::Semicolon)?;
-        Ok((Member { spec, declarators }, spec_height.max(height)))
+        Ok((MemberDecl { spec, declarators }, spec_height.max(height)))
     }
 
     /// At least one member, and the `}` behind them.
     #[cycle(spec)]
-    fn members(&self, tokens: &mut Cursor<'_>) -> Result<(Items<Member>, usize), Failure>
+    fn members(&self, tokens: &mut Cursor<'_>) -> Result<(Items<MemberDecl>, usize), Failure>
         requires nests { Nests self.now.depth (F.pre self.now.expr) (F.post self.now.expr) (G.pre self.now.params) (G.post self.now.params) }
         ensures reads { Reads (reader.members self.now.names.now (below self.now.names.now self.now.depth) tokens.old) result tokens.new }
         ensures tall { IfOk result (λ ms. ms.1 < self.now.depth) }
@@ -203,7 +203,7 @@ where
         }
         if self.is_void_alone(tokens) {
             tokens.skip();
-            return Ok((Params::Void, 0));
+            return Ok((Params::VoidAlone, 0));
         }
         let (given, height) = self.param_list(tokens)?;
         Ok((Params::List(given), height))
