@@ -1,5 +1,5 @@
 -- The name that a declarator declares is the one with which the grammar reads it.
-use Rattle.std.proofs.Common.{◌≡◌, ◌∙◌, ℕ, List, [], ◌∷◌, map, refl, ap}
+use Rattle.std.proofs.Common.{◌≡◌, ◌∙◌, ℕ, List, [], ap}
 use Rattle.c_tree.specs.declared.expression.Declarator.{Declarator, out-Declarator}
 use Rattle.c_tree.specs.declared.expression.Direct.{Direct}
 use Rattle.c_tree.specs.declared.expression.Direct.TheVariants as direct

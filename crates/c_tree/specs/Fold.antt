@@ -1,10 +1,11 @@
 -- Passes over expressions, specs and declarators. Ten types of trees contain one another, so a pass computes something
--- of each of them. It is given by one step for each type: what is computed of a node from what is computed of its parts.
+-- of each of them. One step for each type gives it: what is computed of a node from what is computed of its parts.
 use Rattle.c_tree.specs.declared.expression.AbstractDeclarator.{AbstractDeclarator, fold-AbstractDeclarator}
 use Rattle.c_tree.specs.declared.expression.Declarator.{Declarator, fold-Declarator}
 use Rattle.c_tree.specs.declared.expression.Direct.{Direct, fold-Direct}
 use Rattle.c_tree.specs.declared.expression.Direct.TheOpen.{Direct-F, Expr-F, Param-F, Params-F, Spec-F, Suffix-F}
-use Rattle.c_tree.specs.declared.expression.Direct.TheOpen.{AbstractDeclarator-F, Declarator-F, MemberDecl-F, TypeWord-F}
+use Rattle.c_tree.specs.declared.expression.Direct.TheOpen.{AbstractDeclarator-F, Declarator-F, MemberDecl-F}
+use Rattle.c_tree.specs.declared.expression.Direct.TheOpen.{TypeWord-F}
 use Rattle.c_tree.specs.declared.expression.Expr.{Expr, out-Expr, map-Expr, fold-Expr}
 use Rattle.c_tree.specs.declared.expression.MemberDecl.{MemberDecl, fold-MemberDecl}
 use Rattle.c_tree.specs.declared.expression.Param.{Param, fold-Param}

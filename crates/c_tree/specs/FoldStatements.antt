@@ -1,4 +1,5 @@
--- Passes over statements and blocks, as those over expressions (`Fold`). Expressions and declarations are no parts here.
+-- Passes over statements and blocks, as those over expressions in `Fold`. Expressions and declarations are no parts
+-- here: a step says what is computed of them.
 use Rattle.c_tree.specs.declared.statement.Block.{Block, fold-Block}
 use Rattle.c_tree.specs.declared.statement.BlockItem.{BlockItem, fold-BlockItem}
 use Rattle.c_tree.specs.declared.statement.BlockItem.TheOpen.{BlockItem-F, Stmt-F, Block-F, ForLoop-F}

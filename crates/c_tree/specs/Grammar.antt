@@ -3,7 +3,7 @@
 -- statements, expressions, declarators, abstract declarators, type words, struct bodies and initialisers. `names` are
 -- the type names that earlier items declared. Above each case stands its row of the grammar: `x*` is any number of x,
 -- `x^n` is n of them, and marks and words of the source stand in quotes; expr is the loosest level, assign.
-use Rattle.std.specs.Prelude.{◌≡◌, ◌≢◌, ℕ, ℤ, ◌+◌, ◌<◌, ◌≤◌, ◌⊎◌, Bool, true, false, max, Option, Some, None}
+use Rattle.std.specs.Prelude.{◌≡◌, ◌≢◌, ℕ, ℤ, ◌+◌, ◌<◌, ◌≤◌, ◌⊎◌, Bool, true, false, max, Some, None}
 use Rattle.std.specs.Prelude.{List, [], ◌∷◌, ◌++◌, replicate, Contains}
 use Rattle.c_tokens.specs.declared.token.Keyword.TheVariants as word
 use Rattle.c_tokens.specs.declared.token.Kind.TheVariants.{Word, Name, Number, Text, Mark}

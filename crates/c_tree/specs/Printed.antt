@@ -9,7 +9,8 @@ use Rattle.c_tree.specs.declared.expression.AbstractDeclarator.{AbstractDeclarat
 use Rattle.c_tree.specs.declared.expression.Declarator.{Declarator}
 use Rattle.c_tree.specs.declared.expression.Direct.{Direct}
 use Rattle.c_tree.specs.declared.expression.Direct.TheOpen.{Direct-F, Expr-F, Param-F, Params-F, Spec-F, Suffix-F}
-use Rattle.c_tree.specs.declared.expression.Direct.TheOpen.{AbstractDeclarator-F, Declarator-F, MemberDecl-F, TypeWord-F}
+use Rattle.c_tree.specs.declared.expression.Direct.TheOpen.{AbstractDeclarator-F, Declarator-F, MemberDecl-F}
+use Rattle.c_tree.specs.declared.expression.Direct.TheOpen.{TypeWord-F}
 use Rattle.c_tree.specs.declared.expression.Expr.{Expr}
 use Rattle.c_tree.specs.declared.expression.MemberDecl.{MemberDecl}
 use Rattle.c_tree.specs.declared.expression.Param.{Param}

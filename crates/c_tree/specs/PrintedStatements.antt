@@ -38,7 +38,8 @@ unfoldable pub printed_init_declarator : InitDeclarator → Kinds
 printed_init_declarator d = printed_declarator d.declarator ++ value_kinds d.init
 
 unfoldable pub printed_decl : Decl → Kinds
-printed_decl d = printed_spec d.spec ++ with_commas (map printed_init_declarator d.declarators) ++ Mark mark.Semicolon ∷ []
+printed_decl d =
+    printed_spec d.spec ++ with_commas (map printed_init_declarator d.declarators) ++ Mark mark.Semicolon ∷ []
 
 -- an expression or nothing
 abbrev pub printed_option : Option FullExpr → Kinds

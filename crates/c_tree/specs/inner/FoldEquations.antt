@@ -5,14 +5,17 @@ use Rattle.c_tree.specs.declared.operator.AssignOperator.{AssignOperator}
 use Rattle.c_tree.specs.declared.operator.BinaryOperator.{BinaryOperator}
 use Rattle.c_tree.specs.declared.operator.UnaryOperator.{UnaryOperator}
 use Rattle.c_tree.specs.declared.expression.AbstractDeclarator.{AbstractDeclarator, out-AbstractDeclarator}
-use Rattle.c_tree.specs.declared.expression.AbstractDeclarator.{roll-out-AbstractDeclarator, fold-roll-AbstractDeclarator}
-use Rattle.c_tree.specs.declared.expression.Declarator.{Declarator, out-Declarator, fold-roll-Declarator, fold_out-Declarator}
+use Rattle.c_tree.specs.declared.expression.AbstractDeclarator.{roll-out-AbstractDeclarator}
+use Rattle.c_tree.specs.declared.expression.AbstractDeclarator.{fold-roll-AbstractDeclarator}
+use Rattle.c_tree.specs.declared.expression.Declarator.{Declarator, out-Declarator}
+use Rattle.c_tree.specs.declared.expression.Declarator.{fold-roll-Declarator, fold_out-Declarator}
 use Rattle.c_tree.specs.declared.expression.Direct.{Direct, roll-Direct, map-Direct, fold-roll-Direct}
 use Rattle.c_tree.specs.declared.expression.Direct.TheOpen.{Direct-F, Expr-F, Param-F, Params-F, Spec-F, Suffix-F}
 use Rattle.c_tree.specs.declared.expression.Direct.TheVariants as direct
 use Rattle.c_tree.specs.declared.expression.Expr.{Expr, roll-Expr, map-Expr, fold-roll-Expr, fold_out-Expr}
 use Rattle.c_tree.specs.declared.expression.Expr.TheVariants as expr
-use Rattle.c_tree.specs.declared.expression.MemberDecl.{MemberDecl, out-MemberDecl, fold-roll-MemberDecl, fold_out-MemberDecl}
+use Rattle.c_tree.specs.declared.expression.MemberDecl.{MemberDecl, out-MemberDecl}
+use Rattle.c_tree.specs.declared.expression.MemberDecl.{fold-roll-MemberDecl, fold_out-MemberDecl}
 use Rattle.c_tree.specs.declared.expression.Param.{Param, roll-Param, map-Param, fold-roll-Param}
 use Rattle.c_tree.specs.declared.expression.Param.TheVariants as param
 use Rattle.c_tree.specs.declared.expression.Params.{Params, roll-Params, map-Params, fold-roll-Params}

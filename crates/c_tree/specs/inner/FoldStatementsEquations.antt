@@ -8,7 +8,8 @@ use Rattle.c_tree.specs.declared.statement.BlockItem.TheOpen.{BlockItem-F, Stmt-
 use Rattle.c_tree.specs.declared.statement.BlockItem.TheVariants as block_item
 use Rattle.c_tree.specs.declared.statement.Decl.{Decl}
 use Rattle.c_tree.specs.declared.statement.ForInit.{ForInit}
-use Rattle.c_tree.specs.declared.statement.ForLoop.{ForLoop, out-ForLoop, roll-ForLoop, fold-roll-ForLoop, fold_out-ForLoop}
+use Rattle.c_tree.specs.declared.statement.ForLoop.{ForLoop, out-ForLoop, roll-ForLoop, fold-roll-ForLoop}
+use Rattle.c_tree.specs.declared.statement.ForLoop.{fold_out-ForLoop}
 use Rattle.c_tree.specs.declared.statement.FullExpr.{FullExpr}
 use Rattle.c_tree.specs.declared.statement.Stmt.{Stmt, roll-Stmt, map-Stmt, fold-roll-Stmt}
 use Rattle.c_tree.specs.declared.statement.Stmt.TheVariants as stmt

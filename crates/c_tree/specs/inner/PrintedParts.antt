@@ -7,7 +7,8 @@ use Rattle.c_tree.specs.declared.expression.Expr.{Expr}
 use Rattle.c_tree.specs.Fold.{Node, Pass, expr_node}
 use Rattle.c_tree.specs.Marks.{Kinds}
 use Rattle.c_tree.specs.Printed.{Printed, printed_direct, printed_expr, printed_param, printed_params, printed_spec}
-use Rattle.c_tree.specs.Printed.{printed_suffix, printed_abstract, printed_declarator, printed_member, printed_type_word}
+use Rattle.c_tree.specs.Printed.{printed_suffix, printed_abstract, printed_declarator, printed_member}
+use Rattle.c_tree.specs.Printed.{printed_type_word}
 
 -- what stands in front of the part at this place
 abbrev pub separator : ℕ → Kinds

@@ -60,7 +60,8 @@ fn push_sign(out: &mut Vec<u8>, expr: &Expr) -> Result<(), AllocError>
 #[cycle(expression)]
 #[tactic(auto, using(crate::proofs::AppendedLemmas::nothing), unfolding(crate::specs::inner::PrintedParts::expr_parts))]
 fn push_left(out: &mut Vec<u8>, expr: &Expr) -> Result<(), AllocError>
-    ensures { OnOk result (Appends out.old.items (left_of_sign (expr_parts expr.now)) out.new.items) }
+    ensures { OnOk result (Appends out.old.items
+        (left_of_sign (expr_parts expr.now)) out.new.items) }
 {
     match expr {
         Expr::Assign(operand, ..)
@@ -91,7 +92,8 @@ fn push_left(out: &mut Vec<u8>, expr: &Expr) -> Result<(), AllocError>
 #[cycle(expression)]
 #[tactic(auto, using(crate::proofs::AppendedLemmas::nothing), unfolding(crate::specs::inner::PrintedParts::expr_parts))]
 fn push_right(out: &mut Vec<u8>, expr: &Expr) -> Result<(), AllocError>
-    ensures { OnOk result (Appends out.old.items (right_of_sign (expr_parts expr.now)) out.new.items) }
+    ensures { OnOk result (Appends out.old.items
+        (right_of_sign (expr_parts expr.now)) out.new.items) }
 {
     match expr {
         Expr::Assign(_, _, operand)
@@ -139,7 +141,8 @@ fn push_right(out: &mut Vec<u8>, expr: &Expr) -> Result<(), AllocError>
 /// Appends expressions with commas between.
 #[cycle(expression)]
 fn push_arguments(out: &mut Vec<u8>, arguments: &[Expr]) -> Result<(), AllocError>
-    ensures { OnOk result (Appends out.old.items (with_commas (map printed_expr arguments.now)) out.new.items) }
+    ensures { OnOk result (Appends out.old.items
+        (with_commas (map printed_expr arguments.now)) out.new.items) }
 {
     for (i, argument) in arguments.iter().enumerate() {
         push_separator(out, i)?;
@@ -181,7 +184,8 @@ pub(super) fn push_spec(out: &mut Vec<u8>, spec: &Spec) -> Result<(), AllocError
 /// Appends the members of a struct's body in braces.
 #[cycle(expression)]
 fn push_body(out: &mut Vec<u8>, members: &[MemberDecl]) -> Result<(), AllocError>
-    ensures { OnOk result (Appends out.old.items (body_kinds (Some (map printed_member members.now))) out.new.items) }
+    ensures { OnOk result (Appends out.old.items
+        (body_kinds (Some (map printed_member members.now))) out.new.items) }
 {
     push_mark(out, Mark::LeftBrace)?;
     for member in members {
@@ -198,7 +202,8 @@ pub(super) fn push_declarators(
     out: &mut Vec<u8>,
     declarators: &[Declarator],
 ) -> Result<(), AllocError>
-    ensures { OnOk result (Appends out.old.items (with_commas (map printed_declarator declarators.now)) out.new.items) }
+    ensures { OnOk result (Appends out.old.items
+        (with_commas (map printed_declarator declarators.now)) out.new.items) }
 {
     for (i, declarator) in declarators.iter().enumerate() {
         push_separator(out, i)?;
@@ -220,7 +225,8 @@ fn push_stars(out: &mut Vec<u8>, stars: u32) -> Result<(), AllocError>
 /// Appends a declarator, in parentheses where it has stars or suffixes.
 #[cycle(expression)]
 pub(super) fn push_declarator(out: &mut Vec<u8>, declarator: &Declarator) -> Result<(), AllocError>
-    ensures { OnOk result (Appends out.old.items (printed_declarator declarator.now) out.new.items) }
+    ensures { OnOk result (Appends out.old.items
+        (printed_declarator declarator.now) out.new.items) }
 {
     if declarator.stars == 0 && declarator.suffixes.is_empty() {
         return push_direct(out, &declarator.direct);
@@ -246,7 +252,8 @@ fn push_direct(out: &mut Vec<u8>, direct: &Direct) -> Result<(), AllocError>
 /// Appends suffixes one after another.
 #[cycle(expression)]
 fn push_suffixes(out: &mut Vec<u8>, suffixes: &[Suffix]) -> Result<(), AllocError>
-    ensures { OnOk result (Appends out.old.items (joined (map printed_suffix suffixes.now)) out.new.items) }
+    ensures { OnOk result (Appends out.old.items
+        (joined (map printed_suffix suffixes.now)) out.new.items) }
 {
     for suffix in suffixes {
         push_suffix(out, suffix)?;
@@ -290,7 +297,8 @@ fn push_params(out: &mut Vec<u8>, params: &Params) -> Result<(), AllocError>
 /// Appends parameters with commas between.
 #[cycle(expression)]
 fn push_param_list(out: &mut Vec<u8>, params: &[Param]) -> Result<(), AllocError>
-    ensures { OnOk result (Appends out.old.items (with_commas (map printed_param params.now)) out.new.items) }
+    ensures { OnOk result (Appends out.old.items
+        (with_commas (map printed_param params.now)) out.new.items) }
 {
     for (i, param) in params.iter().enumerate() {
         push_separator(out, i)?;

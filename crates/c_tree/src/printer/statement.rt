@@ -70,7 +70,8 @@ fn push_init_declarators(
     out: &mut Vec<u8>,
     declarators: &[InitDeclarator],
 ) -> Result<(), AllocError>
-    ensures { OnOk result (Appends out.old.items (with_commas (map printed_init_declarator declarators.now)) out.new.items) }
+    ensures { OnOk result (Appends out.old.items
+        (with_commas (map printed_init_declarator declarators.now)) out.new.items) }
 {
     for (i, declarator) in declarators.iter().enumerate() {
         push_separator(out, i)?;
@@ -81,7 +82,8 @@ fn push_init_declarators(
 
 /// Appends a declarator and its initialiser, if it has one.
 fn push_init_declarator(out: &mut Vec<u8>, declarator: &InitDeclarator) -> Result<(), AllocError>
-    ensures { OnOk result (Appends out.old.items (printed_init_declarator declarator.now) out.new.items) }
+    ensures { OnOk result (Appends out.old.items
+        (printed_init_declarator declarator.now) out.new.items) }
 {
     push_declarator(out, &declarator.declarator)?;
     if let Some(init) = &declarator.init {
@@ -109,7 +111,8 @@ fn push_init(out: &mut Vec<u8>, init: &Init) -> Result<(), AllocError>
 /// Appends initialisers with commas between.
 #[cycle(initialiser)]
 fn push_inits(out: &mut Vec<u8>, inits: &[Init]) -> Result<(), AllocError>
-    ensures { OnOk result (Appends out.old.items (with_commas (map printed_init inits.now)) out.new.items) }
+    ensures { OnOk result (Appends out.old.items
+        (with_commas (map printed_init inits.now)) out.new.items) }
 {
     for (i, init) in inits.iter().enumerate() {
         push_separator(out, i)?;
@@ -120,7 +123,8 @@ fn push_inits(out: &mut Vec<u8>, inits: &[Init]) -> Result<(), AllocError>
 
 /// Appends an expression, if there is one, and a `;`.
 fn push_ended(out: &mut Vec<u8>, expr: &Option<FullExpr>) -> Result<(), AllocError>
-    ensures { OnOk result (Appends out.old.items (printed_option expr.now ++ Kind.Mark Mark.Semicolon ∷ []) out.new.items) }
+    ensures { OnOk result (Appends out.old.items
+        (printed_option expr.now ++ Kind.Mark Mark.Semicolon ∷ []) out.new.items) }
 {
     push_option(out, expr)?;
     push_mark(out, Mark::Semicolon)
@@ -138,7 +142,8 @@ fn push_option(out: &mut Vec<u8>, expr: &Option<FullExpr>) -> Result<(), AllocEr
 
 /// Appends a keyword and a condition in parentheses.
 fn push_condition(out: &mut Vec<u8>, word: Keyword, condition: &FullExpr) -> Result<(), AllocError>
-    ensures { OnOk result (Appends out.old.items (Kind.Word word ∷ condition_kinds condition.now) out.new.items) }
+    ensures { OnOk result (Appends out.old.items
+        (Kind.Word word ∷ condition_kinds condition.now) out.new.items) }
 {
     push_word(out, word)?;
     push_mark(out, Mark::LeftParenthesis)?;
@@ -163,7 +168,8 @@ fn push_for_head(
     condition: &Option<FullExpr>,
     step: &Option<FullExpr>,
 ) -> Result<(), AllocError>
-    ensures { OnOk result (Appends out.old.items (for_kinds init.now condition.now step.now) out.new.items) }
+    ensures { OnOk result (Appends out.old.items
+        (for_kinds init.now condition.now step.now) out.new.items) }
 {
     push_word(out, Keyword::For)?;
     push_mark(out, Mark::LeftParenthesis)?;
