@@ -96,7 +96,7 @@ mutual
   ExprForm-begins (ExprForm.arrow level h ts e a x ha ats l hi free is ei left) = Begins-same _ is (Begins-append _ ats _ (ExprReads-begins left))
   ExprForm-begins (ExprForm.post_increment level h ts e a ha ats l hi is ei left) = Begins-same _ is (Begins-append _ ats _ (ExprReads-begins left))
   ExprForm-begins (ExprForm.post_decrement level h ts e a ha ats l hi is ei left) = Begins-same _ is (Begins-append _ ats _ (ExprReads-begins left))
-  ExprForm-begins (ExprForm.name level h ts e x l hi free is ei) = Begins-same _ is free
+  ExprForm-begins (ExprForm.identifier level h ts e x l hi free is ei) = Begins-same _ is free
   ExprForm-begins (ExprForm.number level h ts e n l hi is ei) = Begins-same _ is tt
   ExprForm-begins (ExprForm.text level h ts e bytes l hi is ei) = Begins-same _ is tt
 

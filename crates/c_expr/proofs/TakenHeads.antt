@@ -72,7 +72,7 @@ mutual
   form_opens_no_type {names} (ExprForm.arrow level h ts e a x ha ats l hi free is ei left) tight rest = at_front names ts ats (Mark mark.Arrow ∷ Name x ∷ []) rest is (opens_no_type left (omega arith) _)
   form_opens_no_type {names} (ExprForm.post_increment level h ts e a ha ats l hi is ei left) tight rest = at_front names ts ats (Mark mark.Increment ∷ []) rest is (opens_no_type left (omega arith) _)
   form_opens_no_type {names} (ExprForm.post_decrement level h ts e a ha ats l hi is ei left) tight rest = at_front names ts ats (Mark mark.Decrement ∷ []) rest is (opens_no_type left (omega arith) _)
-  form_opens_no_type {names} (ExprForm.name level h ts e x l hi free is ei) tight rest = at_tokens names ts (Name x ∷ []) rest is refl
+  form_opens_no_type {names} (ExprForm.identifier level h ts e x l hi free is ei) tight rest = at_tokens names ts (Name x ∷ []) rest is refl
   form_opens_no_type {names} (ExprForm.number level h ts e n l hi is ei) tight rest = at_tokens names ts (Number n ∷ []) rest is refl
   form_opens_no_type {names} (ExprForm.text level h ts e bytes l hi is ei) tight rest = at_tokens names ts (Text bytes ∷ []) rest is refl
 

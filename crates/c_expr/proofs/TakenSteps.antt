@@ -31,7 +31,7 @@ form_has_node (ExprForm.member level h ts e a x ha ats l hi free is ei left) = o
 form_has_node (ExprForm.arrow level h ts e a x ha ats l hi free is ei left) = omega arith
 form_has_node (ExprForm.post_increment level h ts e a ha ats l hi is ei left) = omega arith
 form_has_node (ExprForm.post_decrement level h ts e a ha ats l hi is ei left) = omega arith
-form_has_node (ExprForm.name level h ts e x l hi free is ei) = omega arith
+form_has_node (ExprForm.identifier level h ts e x l hi free is ei) = omega arith
 form_has_node (ExprForm.number level h ts e n l hi is ei) = omega arith
 form_has_node (ExprForm.text level h ts e bytes l hi is ei) = omega arith
 

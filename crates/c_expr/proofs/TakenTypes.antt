@@ -8,7 +8,8 @@ use Rattle.c_tree.specs.declared.expression.Params.{Params}
 use Rattle.c_tree.specs.declared.expression.Suffix.{Suffix}
 use Rattle.c_tree.specs.declared.expression.TypeWord.{TypeWord}
 use Rattle.c_tree.specs.Marks.{Kinds, wrapped}
-use Rattle.c_tree.specs.Grammar.{HasParts, star_kinds, abstract as abstract_of, SuffixesRead, SuffixReads, ParamsRead, AbstractReads, AbstractForm, TypeWordReads}
+use Rattle.c_tree.specs.Trees.{abstract as abstract_of}
+use Rattle.c_tree.specs.Grammar.{HasParts, star_kinds, SuffixesRead, SuffixReads, ParamsRead, AbstractReads, AbstractForm, TypeWordReads}
 use Rattle.c_expr.specs.Parser.{same_mark, sees, behind, expect}
 use Rattle.c_expr.specs.Readers.{Readers, suffixes, nested_abstract, abstract_behind, starred, with_suffixes, bracketed_abstract, abstract, type_word, is_none}
 use Rattle.c_expr.specs.Laws.{Takes, Lacks, Closes, ClosesParenthesis, AreComplete}

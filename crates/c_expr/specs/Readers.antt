@@ -28,7 +28,7 @@ use Rattle.c_tree.specs.declared.expression.Suffix.{Suffix}
 use Rattle.c_tree.specs.declared.expression.Suffix.TheVariants as suffix_as
 use Rattle.c_tree.specs.declared.expression.TypeWord.{TypeWord, roll-TypeWord}
 use Rattle.c_tree.specs.Marks.{Kinds, greatest_pairs, assign_level, conditional_level, cast_level, unary_level, postfix_level, primary_level, binary_level}
-use Rattle.c_tree.specs.Grammar.{struct_with, declarator as declarator_of, abstract as abstract_of}
+use Rattle.c_tree.specs.Trees.{struct_with, declarator as declarator_of, abstract as abstract_of}
 use Rattle.c_expr.specs.declared.operand.Continuation.{Continuation}
 use Rattle.c_expr.specs.declared.operand.Continuation.TheVariants as goes
 use Rattle.c_expr.specs.declared.operand.Operand.{Operand}

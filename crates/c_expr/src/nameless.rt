@@ -75,7 +75,10 @@ where
     /// One in parentheses, which stand for nothing where no suffixes stand behind them.
     #[cycle(nameless)]
     #[tactic(auto, unfolding(crate::specs::Readers::bracketed_abstract))]
-    fn bracketed_abstract(&self, tokens: &mut Cursor<'_>) -> Result<(AbstractDeclarator, usize), Failure>
+    fn bracketed_abstract(
+        &self,
+        tokens: &mut Cursor<'_>,
+    ) -> Result<(AbstractDeclarator, usize), Failure>
         requires some { 0 < self.now.depth }
         requires nests { Nests self.now.depth (F.pre self.now.expr) (F.post self.now.expr) (G.pre self.now.params) (G.post self.now.params) }
         ensures reads { Reads (reader.bracketed_abstract self.now.names.now (below self.now.names.now self.now.depth) (self.now.depth - 1) tokens.old) result tokens.new }
@@ -104,7 +107,10 @@ where
 
     /// A declarator without a name.
     #[cycle(nameless)]
-    pub fn abstract_declarator(&self, tokens: &mut Cursor<'_>) -> Result<(AbstractDeclarator, usize), Failure>
+    pub fn abstract_declarator(
+        &self,
+        tokens: &mut Cursor<'_>,
+    ) -> Result<(AbstractDeclarator, usize), Failure>
         requires nests { Nests self.now.depth (F.pre self.now.expr) (F.post self.now.expr) (G.pre self.now.params) (G.post self.now.params) }
         ensures reads { Reads ((readers self.now.names.now self.now.depth).abstract tokens.old) result tokens.new }
         ensures tall { IfOk result (λ a. a.1 ≤ self.now.depth) }

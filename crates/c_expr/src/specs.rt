@@ -15,7 +15,7 @@ use crate::names::Names;
 use c_tokens::{Keyword, Kind, Mark};
 use c_tree::{Expr, MemberDecl, Param, Params, Spec, TypeWord};
 use c_types::Name;
-use sqlite_items::Items;
+use sqlite_items::{Boxed, Items};
 use std::alloc::Global;
 
 impl<'n, F, G> Grammar<'n, F, G>
@@ -132,8 +132,11 @@ where
         Ok((TypeWord { spec, declarator }, 1 + spec_height.max(height)))
     }
 
-    /// A type word of the depth below.
-    pub fn inner_type_word(&self, tokens: &mut Cursor<'_>) -> Result<(TypeWord, usize), Failure>
+    /// A type word of the depth below, in a box.
+    pub fn inner_type_word(
+        &self,
+        tokens: &mut Cursor<'_>,
+    ) -> Result<(Boxed<TypeWord>, usize), Failure>
         requires { Nests self.now.depth (F.pre self.now.expr) (F.post self.now.expr) (G.pre self.now.params) (G.post self.now.params) }
         ensures reads { Reads ((below self.now.names.now self.now.depth).type_word tokens.old) result tokens.new }
         ensures tall { IfOk result (λ e. e.1 ≤ self.now.depth - 1) }
@@ -141,7 +144,8 @@ where
         if self.depth == 0 {
             return Err(Failure::Mismatch);
         }
-        self.inner().type_word(tokens)
+        let (word, height) = self.inner().type_word(tokens)?;
+        Ok((Boxed::new(self.alloc, word)?, height))
     }
 
     /// One parameter.
