@@ -1,5 +1,5 @@
 -- A text has one list of tokens, or one first place that is none.
-use Rattle.std.proofs.Common.{◌≡◌, ◌≢◌, ℕ, ◌-◌, ◌<◌, ◌≤◌, ◌⊎◌, inl, inr, true, false, cond, ◌||◌, nat_eq, Result, Ok, Err, List, [], ◌∷◌, ◌++◌, length, drop, refl, sym, ap, ◌∙◌, subst, arith, length-append, slice_range, IfOk, IfErr, ⊎_elim}
+use Rattle.std.proofs.Common.{◌≡◌, ◌≢◌, ℕ, ◌+◌, ◌-◌, ◌<◌, ◌≤◌, ◌⊎◌, inl, inr, true, false, cond, ◌||◌, nat_eq, Result, Ok, Err, List, [], ◌∷◌, ◌++◌, length, drop, refl, sym, ap, ◌∙◌, subst, arith, length-append, slice_range, IfOk, IfErr, ⊎_elim}
 use Rattle.std.specs.List.{prefix_len}
 use Rattle.std.proofs.lemmas.Bool.{false≢true, or_parts, cond-true, cond-false, false_from_ne_true, eqb-true, or_cases}
 use Rattle.std.proofs.lemmas.List.{length-take-le, length-drop, drop_all}
@@ -11,7 +11,8 @@ use Rattle.c_tokens.specs.declared.token.LexRefusal.TheVariants.{Byte, Number, T
 use Rattle.c_tokens.specs.Bytes.{is_white, is_digit, is_quote, is_word_byte, begins, begins_with_two}
 use Rattle.c_tokens.specs.Spell.{IsToken, IsNumber}
 use Rattle.c_tokens.specs.Blank.{IsBlank}
-use Rattle.c_tokens.specs.Lex.{line_at, StandsAt, LexesTo, Lexes, IsBad, refused_line, IsRefused, IsAnswer}
+use Rattle.c_tokens.specs.Lex.{line_at, StandsAt, LexesTo, Lexes, IsBad, refused_line, IsRefused}
+use Rattle.c_tokens.specs.Answer.{IsAnswer}
 use Rattle.c_tokens.specs.Scan.{begins_blank}
 use Rattle.c_tokens.proofs.Lists.{fronts_same, prefix_len-front}
 use Rattle.c_tokens.proofs.Blanks.{IsBlank-same, two_bytes}
@@ -156,8 +157,8 @@ module _ (bytes : List ℕ) where
   pub Lexes-same : (ts us : List Token) → Lexes bytes ts → Lexes bytes us → ts ≡ us
   Lexes-same ts us p q = (readings_same bytes 0 ts us (length bytes) (length bytes) p q (Ends-length bytes) (Ends-length bytes)).0
 
-  pub no_token_list : (ts : List Token) (refusal : LexRefusal) → Lexes bytes ts → IsRefused bytes refusal → ⊥
-  no_token_list ts refusal p r =
+  pub never_both : (ts : List Token) (refusal : LexRefusal) → Lexes bytes ts → IsRefused bytes refusal → ⊥
+  never_both ts refusal p r =
       let same = (readings_same bytes 0 ts r.tokens (length bytes) r.place p r.before (Ends-length bytes) (Ends-refused refusal r)).1 in
       bad_some refusal (subst (IsBad refusal) (drop_all r.place bytes (omega arith)) r.bad)
 
@@ -168,13 +169,21 @@ module _ (bytes : List ℕ) where
       bad_is refusal (drop r.place bytes) r.bad ∙ (λ i. refusal_at (drop (place i) bytes) (line i)) ∙ sym (bad_is second (drop s.place bytes) s.bad)
 
   pub answer_only : (result : Result (List Token) LexRefusal) → IfOk result (Lexes bytes) → IfErr result (λ e. e ≢ Memory → IsRefused bytes e)
-      → (tokens : List Token) → Lexes bytes tokens → IsAnswer result (Ok tokens)
+      → (tokens : List Token) → Lexes bytes tokens → IsAnswer Memory result (Ok tokens)
   answer_only (Ok found) lexes refused tokens p = inl (ap Ok (Lexes-same found tokens lexes p))
   answer_only (Err Memory) lexes refused tokens p = inr refl
-  answer_only (Err refusal) lexes refused tokens p = absurd (no_token_list tokens refusal p (refused (λ e. cc)))
+  answer_only (Err refusal) lexes refused tokens p = absurd (never_both tokens refusal p (refused (λ e. cc)))
 
   pub answer_refuses : (result : Result (List Token) LexRefusal) → IfOk result (Lexes bytes) → IfErr result (λ e. e ≢ Memory → IsRefused bytes e)
-      → (refusal : LexRefusal) → IsRefused bytes refusal → IsAnswer result (Err refusal)
-  answer_refuses (Ok found) lexes refused refusal r = absurd (no_token_list found refusal lexes r)
+      → (refusal : LexRefusal) → IsRefused bytes refusal → IsAnswer Memory result (Err refusal)
+  answer_refuses (Ok found) lexes refused refusal r = absurd (never_both found refusal lexes r)
   answer_refuses (Err Memory) lexes refused refusal r = inr refl
   answer_refuses (Err second) lexes refused refusal r = inl (ap Err (IsRefused-same second refusal (refused (λ e. cc)) r))
+
+-- each token takes a byte at least
+count_to : (bytes : List ℕ) (at end : ℕ) (ts : List Token) → LexesTo bytes at ts end → at + length ts ≤ end
+count_to bytes at end [] p = omega (arith, p.0)
+count_to bytes at end (t ∷ ts) p = omega (arith, p.0.behind, p.0.some, count_to bytes t.to end ts p.1)
+
+pub Lexes-count : (bytes : List ℕ) (ts : List Token) → Lexes bytes ts → length ts ≤ length bytes
+Lexes-count bytes ts p = omega (arith, count_to bytes 0 (length bytes) ts p)

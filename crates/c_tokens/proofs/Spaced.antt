@@ -12,7 +12,8 @@ use Rattle.c_tokens.specs.Bytes.{begins_with_two}
 use Rattle.c_tokens.specs.Words.{mark_text}
 use Rattle.c_tokens.specs.Spell.{Spells, IsToken, OpensComment}
 use Rattle.c_tokens.specs.Blank.{IsBlank}
-use Rattle.c_tokens.specs.Lex.{line_at, StandsAt, LexesTo, spaced, SpellEach, SpacedTextLexes}
+use Rattle.c_tokens.specs.Lex.{line_at, StandsAt, LexesTo, spaced, SpellEach}
+use Rattle.c_tokens.specs.Theorems.{SpacedTextLexes}
 use Rattle.c_tokens.proofs.Lists.{prefix_len-front, prefix_len-at_least}
 use Rattle.c_tokens.proofs.Blanks.{IsBlank-nil}
 use Rattle.c_tokens.proofs.Tables.{is_other_byte, mark_all}

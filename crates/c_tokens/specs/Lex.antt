@@ -1,5 +1,5 @@
 -- The tokens of a whole text, and where a text has none.
-use Rattle.std.specs.Prelude.{◌≡◌, ℕ, ◌+◌, ◌<◌, ◌≤◌, false, ◌||◌, IsTrue, nat_eq, List, [], ◌∷◌, ◌++◌, length, take, drop, map, count_by, slice_range, Result, Err, ◌⊎◌}
+use Rattle.std.specs.Prelude.{◌≡◌, ℕ, ◌+◌, ◌<◌, ◌≤◌, false, ◌||◌, IsTrue, nat_eq, List, [], ◌∷◌, ◌++◌, length, take, drop, count_by, slice_range}
 use Rattle.std.specs.List.{All}
 use Rattle.c_tokens.specs.declared.token.Kind.{Kind}
 use Rattle.c_tokens.specs.declared.token.Token.{Token}
@@ -64,10 +64,6 @@ pub record IsRefused (bytes : List ℕ) (refusal : LexRefusal) : Type 0 where
   pub bad : IsBad refusal (drop place bytes)
   pub line : refused_line refusal ≡ line_at bytes place
 
--- an answer but for want of memory
-abbrev pub IsAnswer : Result (List Token) LexRefusal → Result (List Token) LexRefusal → Type 0
-IsAnswer result answer = (result ≡ answer) ⊎ (result ≡ Err Memory)
-
 -- these texts, each with one space behind it
 abbrev pub spaced : List (List ℕ) → List ℕ
 spaced [] = []
@@ -79,9 +75,3 @@ SpellEach [] [] = Unit {0}
 SpellEach [] (text ∷ texts) = ⊥
 SpellEach (kind ∷ kinds) [] = ⊥
 SpellEach (kind ∷ kinds) (text ∷ texts) = Spells kind text × SpellEach kinds texts
-
--- texts of tokens with a space behind each are lexed to tokens of just these kinds
-abbrev pub SpacedTextLexes : Type 0
-SpacedTextLexes =
-    (kinds : List Kind) (texts : List (List ℕ)) → SpellEach kinds texts
-    → (tokens : List Token) × (map (λ t. t.kind) tokens ≡ kinds) × Lexes (spaced texts) tokens

@@ -1,10 +1,11 @@
 //! The tokens of a whole text.
 
-ghost use Rattle.std.specs.Prelude.{◌≡◌, ◌≢◌, ◌<◌, ◌^◌, false, Ok, Err, IfOk, IfErr, List, length, count_by, nat_eq};
+ghost use Rattle.std.specs.Prelude.{◌≡◌, ◌≢◌, ◌<◌, ◌≤◌, ◌^◌, false, Ok, Err, IfOk, IfErr, List, length, count_by, nat_eq};
 ghost use Rattle.c_tokens.specs.declared.token.Token.{Token};
 ghost use Rattle.c_tokens.specs.declared.token.LexRefusal.{LexRefusal};
 ghost use Rattle.c_tokens.specs.declared.token.LexRefusal.TheVariants.{Memory};
-ghost use Rattle.c_tokens.specs.Lex.{Lexes, IsRefused, IsAnswer, SpacedTextLexes};
+ghost use Rattle.c_tokens.specs.Answer.{IsAnswer};
+ghost use Rattle.c_tokens.specs.Lex.{Lexes, IsRefused};
 ghost use Rattle.c_tokens.specs.Scan.{begins_blank, IsFront};
 
 use crate::blank::blank_len;
@@ -83,15 +84,12 @@ pub fn lex(alloc: Global, bytes: &[u8]) -> Result<Tokens, LexRefusal>
     requires { length bytes.now < 2 ^ 31 }
     // What is answered are tokens that the bytes have, and no others are.
     ensures found { IfOk result (Lexes bytes.now) }
-    ensures only { (tokens : List Token) → Lexes bytes.now tokens → IsAnswer result (Ok tokens) }
+    ensures only { (tokens : List Token) → Lexes bytes.now tokens → IsAnswer Memory result (Ok tokens) }
+    // Each token has a byte at least.
+    ensures count { IfOk result (λ tokens. length tokens ≤ length bytes.now) }
     // A refusal is the first place that is no token, white space or comment, and comes exactly there.
     ensures refused { IfErr result (λ e. e ≢ LexRefusal.Memory → IsRefused bytes.now e) }
-    ensures refuses { (e : LexRefusal) → IsRefused bytes.now e → IsAnswer result (Err e) }
+    ensures refuses { (e : LexRefusal) → IsRefused bytes.now e → IsAnswer Memory result (Err e) }
 {
     tokens_of(alloc, bytes)
 }
-
-/// The texts of tokens with a space behind each are lexed to tokens of just these kinds.
-pub fn spaced_text_lexes()
-    ensures { SpacedTextLexes }
-{}
