@@ -5,4 +5,4 @@ pub mod Blank
 pub mod Lex
 pub mod Answer
 pub mod Theorems
-pub mod Scan
+pub mod inner

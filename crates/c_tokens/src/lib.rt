@@ -1,5 +1,5 @@
-//! The tokens of a source text: the one list of tokens that the bytes have, or the first place that is
-//! no token, white space or comment.
+//! The tokens of a source text: the one list of tokens that the bytes have, or the first place that
+//! is no token, white space or comment.
 #![tactic(auto)]
 
 mod blank;

@@ -1,7 +1,8 @@
 use Rattle.std.proofs.Common.{◌≤◌, length}
 use Rattle.std.proofs.lemmas.Result.{IfOk-weaker}
 use Rattle.c_tokens.specs.Lex.{Lexes}
-use Rattle.c_tokens.proofs.Readings.{answer_only, answer_refuses, Lexes-count}
+use Rattle.c_tokens.proofs.LexLemmas.{Lexes-count}
+use Rattle.c_tokens.proofs.uniqueness.Texts.{answer_only, answer_refuses}
 use Rattle.c_tokens.proofs.lexer.lex.Goals as goal
 
 pub returns-clause-only : goal.returns-clause-only

@@ -1,4 +1,4 @@
-use Rattle.c_tokens.proofs.Readings.{Lexes-same, IsRefused-same, never_both}
+use Rattle.c_tokens.proofs.uniqueness.Texts.{Lexes-same, IsRefused-same, never_both}
 use Rattle.c_tokens.proofs.theorems.texts_have_one_answer.Goals as goal
 
 pub returns : goal.returns
