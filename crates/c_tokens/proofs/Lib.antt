@@ -1,12 +1,7 @@
-pub mod Lists
-pub mod Blanks
-pub mod Tables
-pub mod Pieces
-pub mod Numbers
-pub mod Forms
-pub mod Tokens
-pub mod Readings
-pub mod Parts
-pub mod Fronts
-pub mod Turns
-pub mod Spaced
+mod ListLemmas
+mod BlankLemmas
+mod WordsLemmas
+mod LexLemmas
+mod uniqueness
+mod soundness
+mod round_trip

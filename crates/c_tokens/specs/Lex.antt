@@ -1,5 +1,5 @@
 -- The tokens of a whole text, and where a text has none.
-use Rattle.std.specs.Prelude.{◌≡◌, ℕ, ◌+◌, ◌<◌, ◌≤◌, false, ◌||◌, IsTrue, nat_eq, List, [], ◌∷◌, ◌++◌, length, take, drop, map, count_by, slice_range, Result, Err, ◌⊎◌}
+use Rattle.std.specs.Prelude.{◌≡◌, ℕ, ◌+◌, ◌<◌, ◌≤◌, false, ◌||◌, IsTrue, nat_eq, List, [], ◌∷◌, ◌++◌, length, take, drop, count_by, slice_range}
 use Rattle.std.specs.List.{All}
 use Rattle.c_tokens.specs.declared.token.Kind.{Kind}
 use Rattle.c_tokens.specs.declared.token.Token.{Token}
@@ -24,8 +24,12 @@ pub record StandsAt (bytes : List ℕ) (at : ℕ) (t : Token) : Type 0 where
 
 -- from place `at` to place `end` the bytes are blanks and these tokens, one after another
 abbrev pub LexesTo : List ℕ → ℕ → List Token → ℕ → Type 0
-LexesTo bytes at [] end = (at ≤ end) × IsBlank (slice_range bytes at end) (drop end bytes)
-LexesTo bytes at (t ∷ ts) end = StandsAt bytes at t × LexesTo bytes t.to ts end
+LexesTo bytes at [] end =
+    (at ≤ end)
+    × IsBlank (slice_range bytes at end) (drop end bytes)
+LexesTo bytes at (t ∷ ts) end =
+    StandsAt bytes at t
+    × LexesTo bytes t.to ts end
 
 -- the text is blanks and these tokens, one after another, each the longest at its place
 abbrev pub Lexes : List ℕ → List Token → Type 0
@@ -33,19 +37,41 @@ Lexes bytes tokens = LexesTo bytes 0 tokens (length bytes)
 
 -- no token begins these bytes
 abbrev pub BeginsNoToken : List ℕ → Type 0
-BeginsNoToken bytes = (kind : Kind) (text rest : List ℕ) → bytes ≡ text ++ rest → Spells kind text → ⊥
+BeginsNoToken bytes =
+    (kind : Kind) (text rest : List ℕ)
+    → bytes ≡ text ++ rest
+    → Spells kind text
+    → ⊥
+
+-- the whole run of letters, digits and `_` that the bytes begin with is no number
+abbrev pub BeginsNoNumber : List ℕ → Type 0
+BeginsNoNumber bytes =
+    (run rest : List ℕ)
+    × (bytes ≡ run ++ rest)
+    × All (λ b. IsTrue (is_word_byte b)) run
+    × (begins is_word_byte rest ≡ false)
+    × ((value : ℕ) → IsNumber run value → ⊥)
 
 -- what is wrong where these bytes begin
 abbrev pub IsBad : LexRefusal → List ℕ → Type 0
-IsBad (Comment line) bytes = IsTrue (begins_with_two 47 42 bytes) × (has_close (drop 2 bytes) ≡ false)
+-- `/*` without a `*/` behind it
+IsBad (Comment line) bytes =
+    IsTrue (begins_with_two 47 42 bytes)
+    × (has_close (drop 2 bytes) ≡ false)
+-- a run of letters, digits and `_` that begins with a digit and is no number
 IsBad (Number line) bytes =
     IsTrue (begins is_digit bytes)
-    × ((run rest : List ℕ) × (bytes ≡ run ++ rest) × All (λ b. IsTrue (is_word_byte b)) run
-    × (begins is_word_byte rest ≡ false) × ((value : ℕ) → IsNumber run value → ⊥))
-IsBad (Text line) bytes = IsTrue (begins is_quote bytes) × BeginsNoToken bytes
+    × BeginsNoNumber bytes
+-- a quote that begins no character or string
+IsBad (Text line) bytes =
+    IsTrue (begins is_quote bytes)
+    × BeginsNoToken bytes
+-- any other byte that begins nothing
 IsBad (Byte line) bytes =
-    (0 < length bytes) × (begins (λ b. is_white b || is_digit b || is_quote b) bytes ≡ false)
-    × (OpensComment bytes → ⊥) × BeginsNoToken bytes
+    (0 < length bytes)
+    × (begins (λ b. is_white b || is_digit b || is_quote b) bytes ≡ false)
+    × (OpensComment bytes → ⊥)
+    × BeginsNoToken bytes
 IsBad Memory bytes = ⊥
 
 abbrev pub refused_line : LexRefusal → ℕ
@@ -64,10 +90,6 @@ pub record IsRefused (bytes : List ℕ) (refusal : LexRefusal) : Type 0 where
   pub bad : IsBad refusal (drop place bytes)
   pub line : refused_line refusal ≡ line_at bytes place
 
--- an answer but for want of memory
-abbrev pub IsAnswer : Result (List Token) LexRefusal → Result (List Token) LexRefusal → Type 0
-IsAnswer result answer = (result ≡ answer) ⊎ (result ≡ Err Memory)
-
 -- these texts, each with one space behind it
 abbrev pub spaced : List (List ℕ) → List ℕ
 spaced [] = []
@@ -78,10 +100,6 @@ abbrev pub SpellEach : List Kind → List (List ℕ) → Type 0
 SpellEach [] [] = Unit {0}
 SpellEach [] (text ∷ texts) = ⊥
 SpellEach (kind ∷ kinds) [] = ⊥
-SpellEach (kind ∷ kinds) (text ∷ texts) = Spells kind text × SpellEach kinds texts
-
--- texts of tokens with a space behind each are lexed to tokens of just these kinds
-abbrev pub SpacedTextLexes : Type 0
-SpacedTextLexes =
-    (kinds : List Kind) (texts : List (List ℕ)) → SpellEach kinds texts
-    → (tokens : List Token) × (map (λ t. t.kind) tokens ≡ kinds) × Lexes (spaced texts) tokens
+SpellEach (kind ∷ kinds) (text ∷ texts) =
+    Spells kind text
+    × SpellEach kinds texts

@@ -3,4 +3,6 @@ pub mod Words
 pub mod Spell
 pub mod Blank
 pub mod Lex
-pub mod Scan
+pub mod Answer
+pub mod Theorems
+pub mod inner

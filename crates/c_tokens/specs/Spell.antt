@@ -7,9 +7,11 @@ use Rattle.c_tokens.specs.declared.token.Kind.TheVariants.{Word, Name, Number, T
 use Rattle.c_tokens.specs.Bytes.{is_digit, is_name_start, is_word_byte, hex_digit, begins, begins_with_two}
 use Rattle.c_tokens.specs.Words.{keyword_text, mark_text}
 
--- a letter or `_`, then letters, digits and `_`
+-- identifier = (letter | "_") { letter | digit | "_" }
 abbrev pub IsIdentifier : List ℕ → Type 0
-IsIdentifier text = IsTrue (begins is_name_start text) × All (λ b. IsTrue (is_word_byte b)) text
+IsIdentifier text =
+    IsTrue (begins is_name_start text)
+    × All (λ b. IsTrue (is_word_byte b)) text
 
 abbrev pub IsNoKeyword : List ℕ → Type 0
 IsNoKeyword text = (k : Keyword) → text ≢ keyword_text k
@@ -22,14 +24,22 @@ hex_value (d ∷ ds) = unwrap_or (hex_digit d) 0 * 16 ^ length ds + hex_value ds
 abbrev pub IsHexDigit : ℕ → Type 0
 IsHexDigit b = hex_digit b ≢ None
 
--- `0`, or decimal digits without a leading 0, or `0x` and at least one hexadecimal digit; at most 2^63 - 1
+-- hexadecimal = "0x" hexadecimal digit { hexadecimal digit }
+abbrev pub IsHexadecimal : List ℕ → ℕ → Type 0
+IsHexadecimal text value =
+    (digits : List ℕ)
+    × (text ≡ 48 ∷ 120 ∷ digits)
+    × (0 < length digits)
+    × All IsHexDigit digits
+    × (value ≡ hex_value digits)
+
+-- number = "0" | digit other than "0" { digit } | hexadecimal, at most 2^63 - 1
 abbrev pub IsNumber : List ℕ → ℕ → Type 0
 IsNumber text value =
     (value < 2 ^ 63)
-    × ((text ≡ decimal value)
-    ⊎ ((digits : List ℕ) × (text ≡ 48 ∷ 120 ∷ digits) × (0 < length digits) × All IsHexDigit digits × (value ≡ hex_value digits)))
+    × ((text ≡ decimal value) ⊎ IsHexadecimal text value)
 
--- the byte that a `\` and this byte stand for
+-- the byte that a `\` and this byte stand for: one of n t 0 \ ' "
 abbrev pub escape : ℕ → Option ℕ
 escape b =
     cond (nat_eq b 110) (Some 10)
@@ -39,7 +49,7 @@ escape b =
     (cond (nat_eq b 39) (Some 39)
     (cond (nat_eq b 34) (Some 34) None)))))
 
--- one piece between these quotes, and its byte: a byte 32 to 126 other than `\` and the quote, or an escape
+-- piece = byte 32 to 126 other than "\" and the quote | "\" byte that it escapes
 abbrev pub IsPiece : ℕ → List ℕ → ℕ → Type 0
 IsPiece quote piece byte =
     ((piece ≡ byte ∷ []) × (32 ≤ byte) × (byte ≤ 126) × (byte ≢ 92) × (byte ≢ quote))
@@ -49,30 +59,55 @@ IsPiece quote piece byte =
 abbrev pub ArePieces : ℕ → List ℕ → List ℕ → Type 0
 ArePieces quote text [] = text ≡ []
 ArePieces quote text (byte ∷ bytes) =
-    (piece rest : List ℕ) × (text ≡ piece ++ rest) × IsPiece quote piece byte × ArePieces quote rest bytes
+    (piece rest : List ℕ)
+    × (text ≡ piece ++ rest)
+    × IsPiece quote piece byte
+    × ArePieces quote rest bytes
 
+-- character = "'" piece "'"
 abbrev pub IsCharacter : List ℕ → ℕ → Type 0
-IsCharacter text byte = (piece : List ℕ) × (text ≡ 39 ∷ piece ++ 39 ∷ []) × IsPiece 39 piece byte
+IsCharacter text byte =
+    (piece : List ℕ)
+    × (text ≡ 39 ∷ piece ++ 39 ∷ [])
+    × IsPiece 39 piece byte
 
+-- string = '"' { piece } '"'
 abbrev pub IsString : List ℕ → List ℕ → Type 0
-IsString text bytes = (pieces : List ℕ) × (text ≡ 34 ∷ pieces ++ 34 ∷ []) × ArePieces 34 pieces bytes
+IsString text bytes =
+    (pieces : List ℕ)
+    × (text ≡ 34 ∷ pieces ++ 34 ∷ [])
+    × ArePieces 34 pieces bytes
 
 -- the text is one token of this kind
 abbrev pub Spells : Kind → List ℕ → Type 0
+-- keyword
 Spells (Word k) text = text ≡ keyword_text k
-Spells (Name s) text = (s ≡ text) × IsIdentifier text × IsNoKeyword text
-Spells (Number n) text = (value : ℕ) × (n ≡ pos value) × (IsNumber text value ⊎ IsCharacter text value)
+-- name = identifier that is no keyword
+Spells (Name s) text =
+    (s ≡ text)
+    × IsIdentifier text
+    × IsNoKeyword text
+-- number | character
+Spells (Number n) text =
+    (value : ℕ)
+    × (n ≡ pos value)
+    × (IsNumber text value ⊎ IsCharacter text value)
+-- string
 Spells (Text s) text = IsString text s
+-- mark
 Spells (Mark m) text = text ≡ mark_text m
 
 -- wherever `/*` or `//` stands a comment begins, and no token
 abbrev pub OpensComment : List ℕ → Type 0
 OpensComment bytes = IsTrue (begins_with_two 47 42 bytes) ⊎ IsTrue (begins_with_two 47 47 bytes)
 
--- no longer front of these bytes is a token
+-- no longer prefix of these bytes is a token
 abbrev pub IsLongest : List ℕ → List ℕ → Type 0
 IsLongest text rest =
-    (kind : Kind) (other behind : List ℕ) → text ++ rest ≡ other ++ behind → Spells kind other → length other ≤ length text
+    (kind : Kind) (other behind : List ℕ)
+    → text ++ rest ≡ other ++ behind
+    → Spells kind other
+    → length other ≤ length text
 
 -- a run of letters, digits and `_` that begins with a digit is taken whole
 abbrev pub IsWholeRun : List ℕ → List ℕ → Type 0

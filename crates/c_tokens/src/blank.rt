@@ -3,9 +3,9 @@
 ghost use Rattle.std.specs.Prelude.{◌≡◌, ◌+◌, ◌≤◌, ◌<◌, false, length, take, drop, nat_eq, not, IfSome, IfNone, ℕ, MatchOption};
 ghost use Rattle.std.specs.List.{prefix_len};
 ghost use Rattle.c_tokens.specs.Blank.{IsBlank, IsBlankPart};
-ghost use Rattle.c_tokens.specs.Scan.{begins_blank, IsCloseAt};
+ghost use Rattle.c_tokens.specs.inner.Scan.{begins_blank, IsCloseAt};
 
-/// The length of the longest front that is white space and whole comments.
+/// The length of the white space and whole comments that the bytes begin with.
 pub(crate) fn blank_len(bytes: &[u8]) -> usize
     ensures inside { result ≤ length bytes.now }
     ensures blank { IsBlank (take result bytes.now) (drop result bytes.now) }

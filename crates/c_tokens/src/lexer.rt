@@ -1,11 +1,12 @@
 //! The tokens of a whole text.
 
-ghost use Rattle.std.specs.Prelude.{◌≡◌, ◌≢◌, ◌<◌, ◌^◌, false, Ok, Err, IfOk, IfErr, List, length, count_by, nat_eq};
+ghost use Rattle.std.specs.Prelude.{◌≡◌, ◌≢◌, ◌<◌, ◌≤◌, ◌^◌, false, Ok, Err, IfOk, IfErr, List, length, count_by, nat_eq};
 ghost use Rattle.c_tokens.specs.declared.token.Token.{Token};
 ghost use Rattle.c_tokens.specs.declared.token.LexRefusal.{LexRefusal};
 ghost use Rattle.c_tokens.specs.declared.token.LexRefusal.TheVariants.{Memory};
-ghost use Rattle.c_tokens.specs.Lex.{Lexes, IsRefused, IsAnswer, SpacedTextLexes};
-ghost use Rattle.c_tokens.specs.Scan.{begins_blank, IsFront};
+ghost use Rattle.c_tokens.specs.Answer.{IsAnswer};
+ghost use Rattle.c_tokens.specs.Lex.{Lexes, IsRefused};
+ghost use Rattle.c_tokens.specs.inner.Scan.{begins_blank, IsTokenOrRefusal};
 
 use crate::blank::blank_len;
 use crate::mark::mark_token;
@@ -24,11 +25,11 @@ impl From<AllocError> for LexRefusal {
     }
 }
 
-/// The token at the front, and its length.
+/// The token that the bytes begin with, and its length.
 fn token_of(alloc: Global, bytes: &[u8], line: u32) -> Result<(Kind, usize), LexRefusal>
     requires some { 0 < length bytes.now }
     requires no_blank { begins_blank bytes.now ≡ false }
-    ensures { IsFront bytes.now line result }
+    ensures { IsTokenOrRefusal bytes.now line result }
 {
     match bytes[0] {
         b'"' => string_token(alloc, bytes, line),
@@ -72,26 +73,25 @@ fn tokens_of(alloc: Global, bytes: &[u8]) -> Result<Tokens, LexRefusal>
     }
 }
 
-/// The tokens of a text, each the longest at its place, with what it stands for, the place of its text and
-/// the line that it begins on. White space and comments stand between tokens and make none.
+/// The tokens of a text, each the longest at its place, with what it stands for, the place of its
+/// text and the line that it begins on: at most as many as the text has bytes. White space and
+/// comments stand between tokens and make none. The text is below 2^31 bytes long.
 ///
-/// The text is below 2^31 bytes long. Where a place is no token, white space or comment, the first such place
-/// decides the refusal, with its line: `Comment` for a `/*` that nothing closes, `Number` for a run of letters,
-/// digits and `_` that begins with a digit and is no number, `Text` for a quote that begins no character or
-/// string, `Byte` for any other byte. `Memory` can come in place of every other answer.
+/// # Errors
+///
+/// Where a place is no token, white space or comment, the first such place decides the refusal, with
+/// its line: `Comment` for a `/*` that nothing closes, `Number` for a run of letters, digits and `_`
+/// that begins with a digit and is no number, `Text` for a quote that begins no character or string,
+/// `Byte` for any other byte. `Memory` can come in place of every other answer.
 pub fn lex(alloc: Global, bytes: &[u8]) -> Result<Tokens, LexRefusal>
     requires { length bytes.now < 2 ^ 31 }
     // What is answered are tokens that the bytes have, and no others are.
     ensures found { IfOk result (Lexes bytes.now) }
-    ensures only { (tokens : List Token) → Lexes bytes.now tokens → IsAnswer result (Ok tokens) }
-    // A refusal is the first place that is no token, white space or comment, and comes exactly there.
+    ensures only { (tokens : List Token) → Lexes bytes.now tokens → IsAnswer Memory result (Ok tokens) }
+    ensures count { IfOk result (λ tokens. length tokens ≤ length bytes.now) }
+    // A refusal is the first place that is no token, white space or comment, and comes just there.
     ensures refused { IfErr result (λ e. e ≢ LexRefusal.Memory → IsRefused bytes.now e) }
-    ensures refuses { (e : LexRefusal) → IsRefused bytes.now e → IsAnswer result (Err e) }
+    ensures refuses { (e : LexRefusal) → IsRefused bytes.now e → IsAnswer Memory result (Err e) }
 {
     tokens_of(alloc, bytes)
 }
-
-/// The texts of tokens with a space behind each are lexed to tokens of just these kinds.
-pub fn spaced_text_lexes()
-    ensures { SpacedTextLexes }
-{}

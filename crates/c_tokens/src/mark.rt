@@ -4,7 +4,7 @@ ghost use Rattle.std.specs.Prelude.{◌≡◌, nat_eq, IsTrue, not, false, ◌||
 ghost use Rattle.std.specs.List.{starts_with, find};
 ghost use Rattle.c_tokens.specs.Bytes.{is_digit, is_quote, is_name_start, begins};
 ghost use Rattle.c_tokens.specs.Words.{mark_text};
-ghost use Rattle.c_tokens.specs.Scan.{begins_blank, IsFront};
+ghost use Rattle.c_tokens.specs.inner.Scan.{begins_blank, IsTokenOrRefusal};
 
 use crate::token::{Kind, LexRefusal, Mark};
 
@@ -112,7 +112,7 @@ impl Mark {
     }
 }
 
-/// The longest mark at the front.
+/// The longest mark that the bytes begin with.
 fn mark_of(bytes: &[u8]) -> Option<Mark>
     ensures { result ≡ find (λ mark. starts_with nat_eq bytes.now (mark_text mark)) MARKS }
 {
@@ -122,11 +122,11 @@ fn mark_of(bytes: &[u8]) -> Option<Mark>
         .find(|mark| bytes.starts_with(mark.text()))
 }
 
-/// The mark at the front, and its length.
+/// The mark that the bytes begin with, and its length.
 pub(crate) fn mark_token(bytes: &[u8], line: u32) -> Result<(Kind, usize), LexRefusal>
     requires no_blank { begins_blank bytes.now ≡ false }
     requires other { IsTrue (begins (λ b. not (is_digit b || is_name_start b || is_quote b)) bytes.now) }
-    ensures { IsFront bytes.now line result }
+    ensures { IsTokenOrRefusal bytes.now line result }
 {
     // No whole comment begins here, so this one is open to the end.
     if bytes.starts_with(b"/*") {

@@ -3,7 +3,7 @@
 ghost use Rattle.std.specs.Prelude.{◌≡◌, ◌≤◌, IsTrue, nat_eq, take, drop, length, IfOk, IfSome, MatchOption};
 ghost use Rattle.c_tokens.specs.Spell.{escape, IsPiece, ArePieces};
 ghost use Rattle.c_tokens.specs.Bytes.{begins};
-ghost use Rattle.c_tokens.specs.Scan.{BeginsNoPiece, IsFront};
+ghost use Rattle.c_tokens.specs.inner.Scan.{BeginsNoPiece, IsTokenOrRefusal};
 
 use crate::token::{Kind, LexRefusal, Spelling};
 use sqlite_items::Items;
@@ -22,7 +22,7 @@ fn escape_of(byte: u8) -> Option<u8>
     }
 }
 
-/// The byte that the piece at the front stands for, and the length of the piece.
+/// The byte that the first piece stands for, and the length of the piece.
 fn piece_of(bytes: &[u8], quote: u8) -> Option<(u8, usize)>
     ensures inside { IfSome result (λ found. found.1 ≤ length bytes.now) }
     ensures piece { MatchOption result (BeginsNoPiece quote bytes.now)
@@ -35,7 +35,8 @@ fn piece_of(bytes: &[u8], quote: u8) -> Option<(u8, usize)>
     }
 }
 
-/// The bytes that the pieces at the front stand for, up to where no piece begins, and the length of the pieces.
+/// The bytes that the first pieces stand for, up to where no piece begins, and the length of these
+/// pieces.
 fn pieces_of(alloc: Global, bytes: &[u8]) -> Result<(Spelling, usize), AllocError>
     ensures inside { IfOk result (λ found. found.1 ≤ length bytes.now) }
     ensures pieces { IfOk result (λ found. ArePieces 34 (take found.1 bytes.now) found.0) }
@@ -50,10 +51,10 @@ fn pieces_of(alloc: Global, bytes: &[u8]) -> Result<(Spelling, usize), AllocErro
     Ok((spelling, len))
 }
 
-/// The character at the front, and its length.
+/// The character that the bytes begin with, and its length.
 pub(crate) fn character_token(bytes: &[u8], line: u32) -> Result<(Kind, usize), LexRefusal>
     requires { IsTrue (begins (λ b. nat_eq b 39) bytes.now) }
-    ensures { IsFront bytes.now line result }
+    ensures { IsTokenOrRefusal bytes.now line result }
 {
     let body = &bytes[1..];
     match piece_of(body, b'\'') {
@@ -65,14 +66,14 @@ pub(crate) fn character_token(bytes: &[u8], line: u32) -> Result<(Kind, usize), 
     }
 }
 
-/// The string at the front, and its length.
+/// The string that the bytes begin with, and its length.
 pub(crate) fn string_token(
     alloc: Global,
     bytes: &[u8],
     line: u32,
 ) -> Result<(Kind, usize), LexRefusal>
     requires { IsTrue (begins (λ b. nat_eq b 34) bytes.now) }
-    ensures { IsFront bytes.now line result }
+    ensures { IsTokenOrRefusal bytes.now line result }
 {
     let body = &bytes[1..];
     let (spelling, len) = pieces_of(alloc, body)?;

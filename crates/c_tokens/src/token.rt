@@ -1,3 +1,5 @@
+//! Tokens, and the refusals of a text that has none.
+
 use sqlite_items::Items;
 use thiserror::Error;
 
@@ -106,7 +108,7 @@ pub enum Kind {
     Mark(Mark),
 }
 
-/// One token: the text of it is the bytes `from..to` of the source, and `line`, from 1, is where it begins.
+/// One token: its text is the bytes `from..to` of the source, and `line`, from 1, is where it begins.
 #[derive(Debug, Drop)]
 pub struct Token {
     pub kind: Kind,

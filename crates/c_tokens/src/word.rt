@@ -5,7 +5,7 @@ ghost use Rattle.std.specs.Str.{bytes_eq};
 ghost use Rattle.std.specs.List.{prefix_len, find};
 ghost use Rattle.c_tokens.specs.Bytes.{is_name_start, is_word_byte, begins};
 ghost use Rattle.c_tokens.specs.Words.{keyword_text};
-ghost use Rattle.c_tokens.specs.Scan.{IsTokenOf};
+ghost use Rattle.c_tokens.specs.inner.Scan.{BeginsWithToken};
 
 use crate::token::{Keyword, Kind, Spelling};
 use sqlite_items::Items;
@@ -103,7 +103,7 @@ fn is_word_byte(byte: u8) -> bool
     byte.is_ascii_alphanumeric() || byte == b'_'
 }
 
-/// The length of the longest front of letters, digits and `_`.
+/// How many letters, digits and `_` the bytes begin with.
 pub(crate) fn run_len(bytes: &[u8]) -> usize
     ensures { result ≡ prefix_len is_word_byte bytes.now }
 {
@@ -120,10 +120,10 @@ fn keyword_of(word: &[u8]) -> Option<Keyword>
         .find(|keyword| keyword.text() == word)
 }
 
-/// The keyword or name at the front, and its length.
+/// The keyword or name that the bytes begin with, and its length.
 pub(crate) fn word_token(alloc: Global, bytes: &[u8]) -> Result<(Kind, usize), AllocError>
     requires { IsTrue (begins is_name_start bytes.now) }
-    ensures { IfOk result (λ found. IsTokenOf bytes.now found.0 found.1) }
+    ensures { IfOk result (λ found. BeginsWithToken bytes.now found.0 found.1) }
 {
     let len = run_len(bytes);
     let word = &bytes[..len];

@@ -6,7 +6,8 @@ use Rattle.c_tokens.specs.declared.token.Kind.{Kind}
 use Rattle.c_tokens.specs.declared.token.Kind.TheVariants.{Word, Name, Number, Text, Mark}
 use Rattle.c_tokens.specs.declared.token.Token.{Token}
 use Rattle.c_tokens.specs.Spell.{escape, IsPiece, ArePieces, Spells, IsIdentifier, IsNoKeyword}
-use Rattle.c_tokens.specs.Lex.{LexesTo, Lexes, SpellEach, SpacedTextLexes}
+use Rattle.c_tokens.specs.Lex.{LexesTo, Lexes, SpellEach}
+use Rattle.c_tokens.specs.Theorems.{SpacedTextLexes}
 use Rattle.c_tree.specs.declared.statement.Unit.{Unit as Source}
 use Rattle.c_tree.specs.Marks.{Kinds, kinds_of}
 use Rattle.c_tree.specs.Statements.{SourceReads}

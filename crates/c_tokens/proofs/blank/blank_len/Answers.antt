@@ -1,6 +1,6 @@
 use Rattle.std.proofs.Common.{arith}
 use Rattle.std.proofs.lemmas.List.{take_rest}
-use Rattle.c_tokens.proofs.Parts.{blank_more}
+use Rattle.c_tokens.proofs.soundness.Blanks.{blank_more}
 use Rattle.c_tokens.proofs.blank.blank_len.Goals as goal
 
 pub loop-part-preserved : goal.loop-part-preserved

@@ -1,7 +1,8 @@
 use Rattle.std.proofs.Common.{◌≡◌, ℕ, List, ◌∷◌, ◌≤◌, length, drop, get_or, ap, ◌∙◌, arith, rules, not, nat_eq}
 use Rattle.std.specs.List.{prefix_len}
 use Rattle.std.proofs.lemmas.List.{take_rest}
-use Rattle.c_tokens.proofs.Parts.{front_two, block_part, open_comment, line_part, line_part_inside}
+use Rattle.c_tokens.proofs.ListLemmas.{split_two}
+use Rattle.c_tokens.proofs.soundness.Blanks.{block_part, open_comment, line_part, line_part_inside}
 use Rattle.c_tokens.proofs.blank.blank_part_len.Goals as goal
 use Rattle.c_tokens.proofs.blank.blank_part_len.Goals.{After-line_len}
 
@@ -16,10 +17,10 @@ returns-in-47-clause-inside c = let inside = line_part_inside c.args.bytes.now c
 
 pub returns-in-47-clause-blank : goal.returns-in-47-clause-blank
 returns-in-47-clause-blank c =
-    line_part c.args.bytes.now c.line_len.result (front_two c.args.bytes.now 47 47 (omega arith) (search rules) (search rules)) (line_len_is c)
+    line_part c.args.bytes.now c.line_len.result (split_two c.args.bytes.now 47 47 (omega arith) (search rules) (search rules)) (line_len_is c)
 
 opens : (bytes : List ℕ) → 2 ≤ length bytes → get_or bytes 0 0 ≡ 47 → get_or bytes 1 0 ≡ 42 → bytes ≡ 47 ∷ 42 ∷ drop 2 bytes
-opens bytes long one two = front_two bytes 47 42 long one two
+opens bytes long one two = split_two bytes 47 42 long one two
 
 pub returns-in_ok-close_at-in-47-2-clause-blank : goal.returns-in_ok-close_at-in-47-2-clause-blank
 returns-in_ok-close_at-in-47-2-clause-blank c =

@@ -1,6 +1,6 @@
 use Rattle.std.proofs.Common.{◌≡◌, ◌-◌, ◌≤◌, length}
 use Rattle.c_tokens.specs.Lex.{line_at}
-use Rattle.c_tokens.proofs.Turns.{Chain}
+use Rattle.c_tokens.proofs.soundness.Texts.{Chain}
 use Rattle.c_tokens.proofs.lexer.tokens_of.Given as goal
 
 abbrev pub invariant-loop-alloc : goal.invariant-loop-alloc

@@ -1,5 +1,5 @@
 use Rattle.std.proofs.Common.{refl, sym, ◌∙◌}
-use Rattle.c_tokens.proofs.Fronts.{mark_token, byte_refused}
+use Rattle.c_tokens.proofs.soundness.Tokens.{mark_token, byte_refused}
 use Rattle.c_tokens.proofs.mark.mark_token.Goals as goal
 
 pub returns-in-Some : goal.returns-in-Some

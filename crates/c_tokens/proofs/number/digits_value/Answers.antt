@@ -1,5 +1,5 @@
 use Rattle.std.proofs.lemmas.Str.{IsUtf8-from_ascii}
-use Rattle.c_tokens.proofs.Numbers.{err_of, IsAscii-digits}
+use Rattle.c_tokens.proofs.soundness.Numbers.{err_of, IsAscii-digits}
 use Rattle.c_tokens.proofs.number.digits_value.Goals as goal
 
 pub returns-in_err-text : goal.returns-in_err-text

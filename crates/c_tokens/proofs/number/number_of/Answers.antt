@@ -1,5 +1,5 @@
 use Rattle.std.proofs.Common.{refl, arith, rules}
-use Rattle.c_tokens.proofs.Numbers.{no_sign, hex_prefix, no_hex_prefix, hex_answer, decimal_answer, leading_zero_answer, run_some}
+use Rattle.c_tokens.proofs.soundness.Numbers.{no_sign, hex_prefix, no_hex_prefix, hex_answer, decimal_answer, leading_zero_answer, run_some}
 use Rattle.c_tokens.proofs.number.number_of.Goals as goal
 use Rattle.c_tokens.proofs.number.number_of.Goals.{then-run-gt1+else-run-eq48, else-run-gt1}
 

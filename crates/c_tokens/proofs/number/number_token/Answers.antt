@@ -1,6 +1,6 @@
 use Rattle.std.proofs.Common.{refl, arith}
 use Rattle.std.proofs.lemmas.Int.{ints}
-use Rattle.c_tokens.proofs.Fronts.{run_word, number_token, number_refused}
+use Rattle.c_tokens.proofs.soundness.Tokens.{run_word, number_token, number_refused}
 use Rattle.c_tokens.proofs.number.number_token.Goals as goal
 
 pub number_of-requires-clause-word : goal.number_of-requires-clause-word

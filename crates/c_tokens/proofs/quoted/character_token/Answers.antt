@@ -1,7 +1,7 @@
 use Rattle.std.proofs.Common.{refl, sym, ◌∙◌, arith}
 use Rattle.std.proofs.lemmas.Int.{ints}
 use Rattle.std.proofs.lemmas.List.{take_rest}
-use Rattle.c_tokens.proofs.Fronts.{character_token, no_piece_refused, open_character_refused}
+use Rattle.c_tokens.proofs.soundness.Tokens.{character_token, no_piece_refused, open_character_refused}
 use Rattle.c_tokens.proofs.quoted.character_token.Goals as goal
 use Rattle.c_tokens.proofs.quoted.character_token.Goals.{in_default-via-in-Some+else-starts_with, in_default-via-in_default}
 

@@ -1,6 +1,6 @@
 use Rattle.std.proofs.Common.{arith}
 use Rattle.std.proofs.lemmas.List.{take_rest}
-use Rattle.c_tokens.proofs.Parts.{pieces_more}
+use Rattle.c_tokens.proofs.soundness.Tokens.{pieces_more}
 use Rattle.c_tokens.proofs.quoted.pieces_of.Goals as goal
 
 pub loop-byte-preserved : goal.loop-byte-preserved

@@ -1,6 +1,6 @@
 use Rattle.std.proofs.Common.{refl, sym, ◌∙◌}
 use Rattle.std.proofs.lemmas.List.{take_rest}
-use Rattle.c_tokens.proofs.Fronts.{string_token, open_string_refused}
+use Rattle.c_tokens.proofs.soundness.Tokens.{string_token, open_string_refused}
 use Rattle.c_tokens.proofs.quoted.string_token.Goals as goal
 
 pub returns-then-not-starts_with : goal.returns-then-not-starts_with

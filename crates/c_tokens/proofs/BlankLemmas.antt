@@ -7,8 +7,8 @@ use Rattle.std.proofs.lemmas.List.Folds.{concat-append}
 use Rattle.std.proofs.lemmas.List.Elements.{All-weaker}
 use Rattle.c_tokens.specs.Bytes.{is_white, begins, begins_with_two}
 use Rattle.c_tokens.specs.Blank.{has_close, IsBlankPart, AreBlankParts, IsBlank}
-use Rattle.c_tokens.specs.Scan.{begins_blank}
-use Rattle.c_tokens.proofs.Lists.{fronts_same, prefix_len-front}
+use Rattle.c_tokens.specs.inner.Scan.{begins_blank}
+use Rattle.c_tokens.proofs.ListLemmas.{prefixes_same, prefix_len-append}
 
 -- the bytes before the first `*/`
 abbrev pub close_place : List ℕ → ℕ
@@ -44,20 +44,20 @@ no_line_end_follows (b ∷ bs) (inl e) = absurd (cc)
 no_line_end_follows (b ∷ bs) (inr e) = rw e
 
 -- what a blank part begins is blank, and has one length
-pub record IsPartFront (part rest : List ℕ) : Type 0 where
+pub record BeginsWithBlank (part rest : List ℕ) : Type 0 where
   pub blank : begins_blank (part ++ rest) ≡ true
   pub long : part_len (part ++ rest) ≡ length part
   pub some : 0 < length part
 
-white_front : (b : ℕ) (rest : List ℕ) → IsTrue (is_white b) → IsPartFront (b ∷ []) rest
-white_front b rest white = record {
+white_begins : (b : ℕ) (rest : List ℕ) → IsTrue (is_white b) → BeginsWithBlank (b ∷ []) rest
+white_begins b rest white = record {
   blank = or_left (is_white b || begins_with_two 47 47 (b ∷ rest)) _ (or_left (is_white b) _ white);
   long = cond-true (is_white b) _ _ white;
   some = omega arith;
 }
 
-block_front : (body rest : List ℕ) → has_close (body ++ 42 ∷ []) ≡ false → IsPartFront (47 ∷ 42 ∷ body ++ 42 ∷ 47 ∷ []) rest
-block_front body rest first =
+block_begins : (body rest : List ℕ) → has_close (body ++ 42 ∷ []) ≡ false → BeginsWithBlank (47 ∷ 42 ∷ body ++ 42 ∷ 47 ∷ []) rest
+block_begins body rest first =
     let regrouped : (body ++ 42 ∷ 47 ∷ []) ++ rest ≡ body ++ 42 ∷ 47 ∷ rest = append_assoc body (42 ∷ 47 ∷ []) rest in
     let place : close_place ((body ++ 42 ∷ 47 ∷ []) ++ rest) ≡ length body = ap close_place regrouped ∙ close_place-body body rest first in
     record {
@@ -66,35 +66,35 @@ block_front body rest first =
       some = omega arith;
     }
 
-line_front : (body rest : List ℕ) → All (λ b. b ≢ 10) body → (rest ≡ []) ⊎ IsTrue (begins (λ b. nat_eq b 10) rest) → IsPartFront (47 ∷ 47 ∷ body) rest
-line_front body rest none follows =
-    let length_is = prefix_len-front is_no_line_end body rest (All-weaker (λ b. b ≢ 10) (λ b. IsTrue (is_no_line_end b)) (λ b ne. not_from_false (nat_eq b 10) (ne_eqb b 10 ne)) body none) (no_line_end_follows rest follows) in
+line_begins : (body rest : List ℕ) → All (λ b. b ≢ 10) body → (rest ≡ []) ⊎ IsTrue (begins (λ b. nat_eq b 10) rest) → BeginsWithBlank (47 ∷ 47 ∷ body) rest
+line_begins body rest none follows =
+    let length_is = prefix_len-append is_no_line_end body rest (All-weaker (λ b. b ≢ 10) (λ b. IsTrue (is_no_line_end b)) (λ b ne. not_from_false (nat_eq b 10) (ne_eqb b 10 ne)) body none) (no_line_end_follows rest follows) in
     record {
       blank = refl;
       long = omega (arith, length_is);
       some = omega arith;
     }
 
-pub IsPartFront-of : (part rest : List ℕ) → IsBlankPart part rest → IsPartFront part rest
-IsPartFront-of part rest (inl (b, e, white)) = subst (λ (t : List ℕ). IsPartFront t rest) (sym e) (white_front b rest white)
-IsPartFront-of part rest (inr (inl (body, e, first))) = subst (λ (t : List ℕ). IsPartFront t rest) (sym e) (block_front body rest first)
-IsPartFront-of part rest (inr (inr (body, e, none, follows))) = subst (λ (t : List ℕ). IsPartFront t rest) (sym e) (line_front body rest none follows)
+pub BeginsWithBlank-of : (part rest : List ℕ) → IsBlankPart part rest → BeginsWithBlank part rest
+BeginsWithBlank-of part rest (inl (b, e, white)) = subst (λ (t : List ℕ). BeginsWithBlank t rest) (sym e) (white_begins b rest white)
+BeginsWithBlank-of part rest (inr (inl (body, e, first))) = subst (λ (t : List ℕ). BeginsWithBlank t rest) (sym e) (block_begins body rest first)
+BeginsWithBlank-of part rest (inr (inr (body, e, none, follows))) = subst (λ (t : List ℕ). BeginsWithBlank t rest) (sym e) (line_begins body rest none follows)
 
 -- blanks before bytes that begin with none are forced
 pub blanks_same : (parts others : List (List ℕ)) (x y : List ℕ) → AreBlankParts parts x → AreBlankParts others y
     → concat parts ++ x ≡ concat others ++ y → begins_blank x ≡ false → begins_blank y ≡ false → concat parts ≡ concat others
 blanks_same [] [] x y p q e no_x no_y = refl
 blanks_same [] (other ∷ others) x y p q e no_x no_y =
-    let front = IsPartFront-of other (concat others ++ y) q.0 in
-    absurd (both_ways (begins_blank x) no_x (ap begins_blank (e ∙ append_assoc other (concat others) y) ∙ front.blank))
+    let prefix = BeginsWithBlank-of other (concat others ++ y) q.0 in
+    absurd (both_ways (begins_blank x) no_x (ap begins_blank (e ∙ append_assoc other (concat others) y) ∙ prefix.blank))
 blanks_same (part ∷ parts) [] x y p q e no_x no_y =
-    let front = IsPartFront-of part (concat parts ++ x) p.0 in
-    absurd (both_ways (begins_blank y) no_y (ap begins_blank (sym e ∙ append_assoc part (concat parts) x) ∙ front.blank))
+    let prefix = BeginsWithBlank-of part (concat parts ++ x) p.0 in
+    absurd (both_ways (begins_blank y) no_y (ap begins_blank (sym e ∙ append_assoc part (concat parts) x) ∙ prefix.blank))
 blanks_same (part ∷ parts) (other ∷ others) x y p q e no_x no_y =
-    let one = IsPartFront-of part (concat parts ++ x) p.0 in
-    let two = IsPartFront-of other (concat others ++ y) q.0 in
+    let one = BeginsWithBlank-of part (concat parts ++ x) p.0 in
+    let two = BeginsWithBlank-of other (concat others ++ y) q.0 in
     let same = sym (append_assoc part (concat parts) x) ∙ e ∙ append_assoc other (concat others) y in
-    let cut = fronts_same part other _ _ same (sym one.long ∙ ap part_len same ∙ two.long) in
+    let cut = prefixes_same part other _ _ same (sym one.long ∙ ap part_len same ∙ two.long) in
     let later = blanks_same parts others x y p.1 q.1 cut.1 no_x no_y in
     (λ i. cut.0 i ++ later i)
 

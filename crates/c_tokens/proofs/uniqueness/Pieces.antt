@@ -2,7 +2,7 @@
 use Rattle.std.proofs.Common.{◌≡◌, ◌≢◌, ℕ, inl, inr, Some, List, [], ◌∷◌, ◌++◌, refl, sym, ap, ◌∙◌, append_assoc, append-nil}
 use Rattle.std.proofs.lemmas.Bool.{eqb-false}
 use Rattle.c_tokens.specs.Spell.{escape, IsPiece, ArePieces, IsCharacter, IsString}
-use Rattle.c_tokens.specs.Scan.{BeginsNoPiece}
+use Rattle.c_tokens.specs.inner.Scan.{BeginsNoPiece}
 
 -- one piece begins some bytes in one way
 pub IsPiece-same : (quote : ℕ) (piece other x y : List ℕ) (byte second : ℕ) → piece ++ x ≡ other ++ y
@@ -58,8 +58,8 @@ ArePieces-same quote text other x y (byte ∷ bytes) (second ∷ seconds) e (pie
 pub ArePieces-push : (quote : ℕ) (text bytes piece : List ℕ) (byte : ℕ) → ArePieces quote text bytes → IsPiece quote piece byte
     → ArePieces quote (text ++ piece) (bytes ++ byte ∷ [])
 ArePieces-push quote text [] piece byte p last = (piece, [], ap (λ l. l ++ piece) p ∙ sym (append-nil piece), last, refl)
-ArePieces-push quote text (b ∷ bs) piece byte (front, rest, p, first, more) last =
-    (front, rest ++ piece, ap (λ l. l ++ piece) p ∙ append_assoc front rest piece, first, ArePieces-push quote rest bs piece byte more last)
+ArePieces-push quote text (b ∷ bs) piece byte (prefix, rest, p, first, more) last =
+    (prefix, rest ++ piece, ap (λ l. l ++ piece) p ∙ append_assoc prefix rest piece, first, ArePieces-push quote rest bs piece byte more last)
 
 -- a character begins some bytes in one way, and so does a string
 pub IsCharacter-same : (text other x y : List ℕ) (byte second : ℕ) → text ++ x ≡ other ++ y

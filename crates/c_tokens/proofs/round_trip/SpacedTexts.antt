@@ -6,20 +6,19 @@ use Rattle.std.proofs.lemmas.List.{drop_at}
 use Rattle.c_tokens.specs.declared.token.Kind.{Kind}
 use Rattle.c_tokens.specs.declared.token.Kind.TheVariants.{Mark}
 use Rattle.c_tokens.specs.declared.token.Mark.{Mark as AMark}
-use Rattle.c_tokens.specs.declared.token.Mark.TheVariants as marks
 use Rattle.c_tokens.specs.declared.token.Token.{Token}
 use Rattle.c_tokens.specs.Bytes.{begins_with_two}
 use Rattle.c_tokens.specs.Words.{mark_text}
 use Rattle.c_tokens.specs.Spell.{Spells, IsToken, OpensComment}
 use Rattle.c_tokens.specs.Blank.{IsBlank}
-use Rattle.c_tokens.specs.Lex.{line_at, StandsAt, LexesTo, spaced, SpellEach, SpacedTextLexes}
-use Rattle.c_tokens.proofs.Lists.{prefix_len-front, prefix_len-at_least}
-use Rattle.c_tokens.proofs.Blanks.{IsBlank-nil}
-use Rattle.c_tokens.proofs.Tables.{is_other_byte, mark_all}
-use Rattle.c_tokens.proofs.Forms.{Form, character, string, mark, form}
-use Rattle.c_tokens.proofs.Tokens.{IsLongestMark, token_some, token_of_word, token_of_character, token_of_string, token_of_mark}
-use Rattle.c_tokens.proofs.Parts.{split_at_length}
-use Rattle.c_tokens.proofs.Turns.{part_at}
+use Rattle.c_tokens.specs.Lex.{line_at, StandsAt, LexesTo, spaced, SpellEach}
+use Rattle.c_tokens.specs.Theorems.{SpacedTextLexes}
+use Rattle.c_tokens.proofs.ListLemmas.{prefix_len-append, prefix_len-at_least, split_at_length, part_at}
+use Rattle.c_tokens.proofs.BlankLemmas.{IsBlank-nil}
+use Rattle.c_tokens.proofs.WordsLemmas.{is_other_byte, mark_all}
+use Rattle.c_tokens.proofs.uniqueness.Kinds.{Form, character, string, mark, form}
+use Rattle.c_tokens.proofs.uniqueness.Tokens.{IsLongestMark, token_some, token_of_word, token_of_character, token_of_string, token_of_mark}
+use Rattle.c_tokens.specs.declared.token.Mark.TheVariants as marks
 
 -- ---- a space ends each token
 
@@ -34,7 +33,7 @@ closed_before_space m rest (inr line) = both_ways _ (or_parts (begins_with_two 4
 longest_before_space : (m : AMark) (rest : List ℕ) → IsLongestMark m (mark_text m ++ 32 ∷ rest)
 longest_before_space m rest o behind e =
     let p : ℕ → Bool = λ b. not (is_other_byte b) in
-    omega (arith, prefix_len-at_least p (mark_text o) behind (mark_all o), ap (prefix_len p) e, prefix_len-front p (mark_text m) (32 ∷ rest) (mark_all m) refl)
+    omega (arith, prefix_len-at_least p (mark_text o) behind (mark_all o), ap (prefix_len p) e, prefix_len-append p (mark_text m) (32 ∷ rest) (mark_all m) refl)
 
 form_before_space : {kind : Kind} {text : List ℕ} (rest : List ℕ) → Spells kind text → Form kind text → IsToken kind text (32 ∷ rest)
 form_before_space {kind} {text} rest spelled (character value e is) = subst (λ (k : Kind). IsToken k text (32 ∷ rest)) (sym e) (token_of_character text (32 ∷ rest) value is)
@@ -50,38 +49,38 @@ token_before_space kind text rest spelled = form_before_space rest spelled (form
 -- ---- the whole text
 
 -- a fact on the middle of some bytes and on what follows it
-middle : (P : List ℕ → List ℕ → Type 0) (bytes front text rest : List ℕ) → bytes ≡ front ++ (text ++ rest) → P text rest
-    → P (slice_range bytes (length front) (length front + length text)) (drop (length front + length text) bytes)
-middle P bytes front text rest e p =
-    part_at P bytes (length front) (length text) (split_at_length P (drop (length front) bytes) text rest (length text) (ap (drop (length front)) e ∙ drop_at front (text ++ rest) (length front) refl) refl p)
+middle : (P : List ℕ → List ℕ → Type 0) (bytes prefix text rest : List ℕ) → bytes ≡ prefix ++ (text ++ rest) → P text rest
+    → P (slice_range bytes (length prefix) (length prefix + length text)) (drop (length prefix + length text) bytes)
+middle P bytes prefix text rest e p =
+    part_at P bytes (length prefix) (length text) (split_at_length P (drop (length prefix) bytes) text rest (length text) (ap (drop (length prefix)) e ∙ drop_at prefix (text ++ rest) (length prefix) refl) refl p)
 
 space_blank : (rest : List ℕ) → IsBlank (32 ∷ []) rest
 space_blank rest = ((32 ∷ []) ∷ [], refl, (inl (32, refl, refl), tt))
 
-spaced_from : (bytes front gap : List ℕ) (kinds : List Kind) (texts : List (List ℕ)) → bytes ≡ front ++ (gap ++ spaced texts) → ((rest : List ℕ) → IsBlank gap rest)
-    → SpellEach kinds texts → (tokens : List Token) × (map (λ t. t.kind) tokens ≡ kinds) × LexesTo bytes (length front) tokens (length bytes)
-spaced_from bytes front gap [] [] e blank spelled =
-    let size : length bytes ≡ length front + length gap = omega (arith, ap length e, length-append front (gap ++ []), length-append gap []) in
-    ([], refl, (omega arith, subst (λ (n : ℕ). IsBlank (slice_range bytes (length front) n) (drop n bytes)) (sym size) (middle IsBlank bytes front gap [] e (blank []))))
-spaced_from bytes front gap [] (text ∷ texts) e blank spelled = absurd spelled
-spaced_from bytes front gap (kind ∷ kinds) [] e blank spelled = absurd spelled
-spaced_from bytes front gap (kind ∷ kinds) (text ∷ texts) e blank spelled =
+spaced_from : (bytes prefix gap : List ℕ) (kinds : List Kind) (texts : List (List ℕ)) → bytes ≡ prefix ++ (gap ++ spaced texts) → ((rest : List ℕ) → IsBlank gap rest)
+    → SpellEach kinds texts → (tokens : List Token) × (map (λ t. t.kind) tokens ≡ kinds) × LexesTo bytes (length prefix) tokens (length bytes)
+spaced_from bytes prefix gap [] [] e blank spelled =
+    let size : length bytes ≡ length prefix + length gap = omega (arith, ap length e, length-append prefix (gap ++ []), length-append gap []) in
+    ([], refl, (omega arith, subst (λ (n : ℕ). IsBlank (slice_range bytes (length prefix) n) (drop n bytes)) (sym size) (middle IsBlank bytes prefix gap [] e (blank []))))
+spaced_from bytes prefix gap [] (text ∷ texts) e blank spelled = absurd spelled
+spaced_from bytes prefix gap (kind ∷ kinds) [] e blank spelled = absurd spelled
+spaced_from bytes prefix gap (kind ∷ kinds) (text ∷ texts) e blank spelled =
     let rest = 32 ∷ spaced texts in
     let token = token_before_space kind text (spaced texts) spelled.0 in
     let some = token_some kind text rest token in
     let all = text ++ rest in
-    let before = front ++ gap in
-    let behind : bytes ≡ before ++ (text ++ rest) = e ∙ sym (append_assoc front gap all) in
+    let before = prefix ++ gap in
+    let behind : bytes ≡ before ++ (text ++ rest) = e ∙ sym (append_assoc prefix gap all) in
     let onward : bytes ≡ (before ++ text) ++ (32 ∷ [] ++ spaced texts) = behind ∙ sym (append_assoc before text rest) in
     let later = spaced_from bytes (before ++ text) (32 ∷ []) kinds texts onward space_blank spelled.1 in
-    let from : length before ≡ length front + length gap = length-append front gap in
+    let from : length before ≡ length prefix + length gap = length-append prefix gap in
     let to : length (before ++ text) ≡ length before + length text = length-append before text in
     let t : Token = record { kind = kind; from = length before; to = length (before ++ text); line = line_at bytes (length before) } in
-    let stands : StandsAt bytes (length front) t = record {
+    let stands : StandsAt bytes (length prefix) t = record {
       behind = omega arith;
       some = omega arith;
       inside = omega (arith, ap length onward, length-append (before ++ text) rest);
-      gap = subst (λ (n : ℕ). IsBlank (slice_range bytes (length front) n) (drop n bytes)) (sym from) (middle IsBlank bytes front gap all e (blank all));
+      gap = subst (λ (n : ℕ). IsBlank (slice_range bytes (length prefix) n) (drop n bytes)) (sym from) (middle IsBlank bytes prefix gap all e (blank all));
       token = subst (λ (n : ℕ). IsToken kind (slice_range bytes (length before) n) (drop n bytes)) (sym to) (middle (IsToken kind) bytes before text rest behind token);
       line = refl;
     } in

@@ -1,8 +1,8 @@
--- A turn of the lexer: blanks, then one token, the end or a refusal, and the line that is counted along.
+-- Blanks and tokens that were found one after another are the text's, and the lines counted on the way are their lines.
 use Rattle.std.proofs.Common.{◌≡◌, ◌≢◌, ℕ, ◌+◌, ◌-◌, ◌≤◌, inl, inr, true, nat_eq, IsTrue, not, List, [], ◌∷◌, ◌++◌, length, take, drop, refl, sym, ap, ◌∙◌, subst, arith, slice_range, count_by, cond, Some, None}
 use Rattle.std.proofs.Math.Seq.{take-add}
 use Rattle.std.specs.List.{All}
-use Rattle.std.proofs.lemmas.List.{length-drop, drop-drop}
+use Rattle.std.proofs.lemmas.List.{length-drop}
 use Rattle.std.proofs.lemmas.List.Elements.{All-nil, All-cons, All-head, All-tail, All-append, All-weaker}
 use Rattle.std.proofs.lemmas.List.Sums.{sum_by-append, sum_by-cons}
 use Rattle.std.proofs.lemmas.Bool.{cond-false, ne_eqb, eqb-false, false≢true}
@@ -14,9 +14,10 @@ use Rattle.c_tokens.specs.Words.{mark_text}
 use Rattle.c_tokens.specs.Spell.{IsPiece, ArePieces, IsToken, escape}
 use Rattle.c_tokens.specs.Blank.{IsBlank}
 use Rattle.c_tokens.specs.Lex.{line_at, StandsAt, LexesTo, Lexes, IsBad, refused_line, IsRefused}
-use Rattle.c_tokens.specs.Scan.{IsTokenOf}
-use Rattle.c_tokens.proofs.Tables.{is_other_byte, mark_all}
-use Rattle.c_tokens.proofs.Forms.{Form, character, string, mark, form, form_word}
+use Rattle.c_tokens.specs.inner.Scan.{BeginsWithToken}
+use Rattle.c_tokens.proofs.WordsLemmas.{is_other_byte, mark_all}
+use Rattle.c_tokens.proofs.uniqueness.Kinds.{Form, character, string, mark, form, form_word}
+use Rattle.c_tokens.proofs.ListLemmas.{part_at}
 
 -- from place `at` on these tokens stand one after another, the last of them up to place `end`
 abbrev pub Chain : List ℕ → ℕ → List Token → ℕ → Type 0
@@ -36,8 +37,8 @@ LexesTo-chain bytes at end last (t ∷ ts) chain up gap = (chain.0, LexesTo-chai
 line_more : (bytes : List ℕ) (at end : ℕ) → at ≤ end → line_at bytes end ≡ line_at bytes at + count_by (λ b. nat_eq b 10) (slice_range bytes at end)
 line_more bytes at end up =
     let apart : at + (end - at) ≡ end = omega arith in
-    let front : take end bytes ≡ take at bytes ++ slice_range bytes at end = ap (λ n. take n bytes) (sym apart) ∙ take-add at (end - at) bytes in
-    omega (arith, ap (count_by (λ b. nat_eq b 10)) front, sum_by-append (λ b. cond (nat_eq b 10) 1 0) (take at bytes) (slice_range bytes at end))
+    let prefix : take end bytes ≡ take at bytes ++ slice_range bytes at end = ap (λ n. take n bytes) (sym apart) ∙ take-add at (end - at) bytes in
+    omega (arith, ap (count_by (λ b. nat_eq b 10)) prefix, sum_by-append (λ b. cond (nat_eq b 10) 1 0) (take at bytes) (slice_range bytes at end))
 
 no_line_ends : (text : List ℕ) → All (λ b. b ≢ 10) text → count_by (λ b. nat_eq b 10) text ≡ 0
 no_line_ends [] all = refl
@@ -79,30 +80,24 @@ form_no_line_end (string bytes e (pieces, is, are)) = subst NoLineEnd (sym is) (
 form_no_line_end (mark m e is) = subst NoLineEnd (sym is) (All-weaker (λ b. IsTrue (not (is_other_byte b))) (λ b. b ≢ 10) other_no_line_end (mark_text m) (mark_all m))
 form_no_line_end {text} f = All-weaker (λ b. IsTrue (is_word_byte b)) (λ b. b ≢ 10) word_no_line_end text (form_word f refl)
 
--- ---- one turn
+-- ---- one round: blanks, then a token, the end or a refusal
 
 pub line_counted : (bytes : List ℕ) (at len : ℕ) → line_at bytes (at + len) ≡ line_at bytes at + count_by (λ b. nat_eq b 10) (slice_range bytes at (at + len))
 line_counted bytes at len = line_more bytes at (at + len) (omega arith)
-
--- a part of the bytes, and what follows it
-pub part_at : (P : List ℕ → List ℕ → Type 0) (bytes : List ℕ) (at len : ℕ) → P (take len (drop at bytes)) (drop len (drop at bytes)) → P (slice_range bytes at (at + len)) (drop (at + len) bytes)
-part_at P bytes at len p =
-    let size : len ≡ at + len - at = omega arith in
-    subst (λ (n : ℕ). P (take n (drop at bytes)) (drop (at + len) bytes)) size (subst (λ (l : List ℕ). P (take len (drop at bytes)) l) (drop-drop len at bytes) p)
 
 module _ (bytes : List ℕ) (tokens : List Token) (at len : ℕ) (before : Chain bytes 0 tokens at) (inside : at + len ≤ length bytes)
     (gap : IsBlank (take len (drop at bytes)) (drop len (drop at bytes))) where
   lexed : LexesTo bytes 0 tokens (at + len)
   lexed = LexesTo-chain bytes 0 at (at + len) tokens before (omega arith) (part_at IsBlank bytes at len gap)
 
-  pub turn_end : at + len ≡ length bytes → Lexes bytes tokens
-  turn_end all = subst (λ (n : ℕ). LexesTo bytes 0 tokens n) all lexed
+  pub end_lexed : at + len ≡ length bytes → Lexes bytes tokens
+  end_lexed all = subst (λ (n : ℕ). LexesTo bytes 0 tokens n) all lexed
 
-  pub turn_refused : (refusal : LexRefusal) → IsBad refusal (drop (at + len) bytes) → refused_line refusal ≡ line_at bytes (at + len) → IsRefused bytes refusal
-  turn_refused refusal bad line = record { tokens = tokens; place = at + len; inside = inside; before = lexed; bad = bad; line = line }
+  pub refusal_lexed : (refusal : LexRefusal) → IsBad refusal (drop (at + len) bytes) → refused_line refusal ≡ line_at bytes (at + len) → IsRefused bytes refusal
+  refusal_lexed refusal bad line = record { tokens = tokens; place = at + len; inside = inside; before = lexed; bad = bad; line = line }
 
-  pub turn_token : (t : Token) (size : ℕ) → t.from ≡ at + len → t.to ≡ t.from + size → t.line ≡ line_at bytes t.from → IsTokenOf (drop t.from bytes) t.kind size → StandsAt bytes at t
-  turn_token t size from to line token =
+  pub token_lexed : (t : Token) (size : ℕ) → t.from ≡ at + len → t.to ≡ t.from + size → t.line ≡ line_at bytes t.from → BeginsWithToken (drop t.from bytes) t.kind size → StandsAt bytes at t
+  token_lexed t size from to line token =
       let some = token.some in let within = token.inside in
       record {
         behind = omega arith;

@@ -1,4 +1,4 @@
--- The token or the refusal at the front of some bytes, from what the parts of the lexer find there.
+-- What the lexer takes for a token is one, and what it refuses is refused.
 use Rattle.std.proofs.Common.{◌≡◌, ℕ, ℤ, zero, suc, pos, ◌+◌, ◌<◌, ◌≤◌, inl, inr, Bool, true, false, not, ◌&&◌, ◌||◌, nat_eq, IsTrue, Some, None, List, [], ◌∷◌, ◌++◌, length, take, drop, refl, sym, ap, ◌∙◌, subst, arith, append_assoc, length-append, take-append-drop}
 use Rattle.std.specs.List.{All, find, starts_with, prefix_len}
 use Rattle.std.proofs.lemmas.Bool.{false≢true, both_ways, eqb-true, or_parts, or_from, or_left, or_right, and_from, eq-eqb, eqb-false, not_from_false, not-true, cond-true}
@@ -10,23 +10,23 @@ use Rattle.c_tokens.specs.declared.token.Keyword.{Keyword}
 use Rattle.c_tokens.specs.declared.token.Mark.{Mark as AMark}
 use Rattle.c_tokens.specs.declared.token.Kind.{Kind}
 use Rattle.c_tokens.specs.declared.token.Kind.TheVariants.{Word, Name, Number, Text, Mark}
-use Rattle.c_tokens.specs.declared.token.LexRefusal.TheVariants as refusal
 use Rattle.c_tokens.specs.declared.mark.TheConstants.{MARKS}
 use Rattle.c_tokens.specs.Bytes.{is_white, is_digit, is_quote, is_name_start, is_word_byte, begins, begins_with_two}
 use Rattle.c_tokens.specs.Words.{keyword_text, mark_text}
 use Rattle.c_tokens.specs.Spell.{IsIdentifier, IsNoKeyword, IsNumber, IsPiece, ArePieces, IsToken, OpensComment}
 use Rattle.c_tokens.specs.Lex.{IsBad}
 use Rattle.c_tokens.specs.Blank.{has_close}
-use Rattle.c_tokens.specs.Scan.{begins_blank, BeginsNoPiece, IsTokenOf}
-use Rattle.c_tokens.proofs.Lists.{fronts_same, All-prefix, begins_after_prefix}
-use Rattle.c_tokens.proofs.Blanks.{two_bytes}
-use Rattle.c_tokens.proofs.Pieces.{IsPiece-same, ArePieces-same, BeginsNoPiece-quote}
-use Rattle.c_tokens.proofs.Tables.{is_other_byte, mark_front, mark_longest, no_mark}
-use Rattle.c_tokens.proofs.Forms.{apostrophe, quotation, punctuation, class_of, other_class, Form, keyword, name, number, character, string, mark, form}
-use Rattle.c_tokens.proofs.Tokens.{form_begins, token_some, token_of_word, token_of_character, token_of_string, token_of_mark}
-use Rattle.c_tokens.proofs.Parts.{split_at_length}
+use Rattle.c_tokens.specs.inner.Scan.{begins_blank, BeginsNoPiece, BeginsWithToken}
+use Rattle.c_tokens.proofs.ListLemmas.{prefixes_same, All-prefix, begins_after_prefix, split_at_length}
+use Rattle.c_tokens.proofs.BlankLemmas.{two_bytes}
+use Rattle.c_tokens.proofs.uniqueness.Pieces.{IsPiece-same, ArePieces-same, BeginsNoPiece-quote, ArePieces-push}
+use Rattle.c_tokens.proofs.WordsLemmas.{is_other_byte, mark_found, mark_longest, no_mark}
+use Rattle.c_tokens.proofs.uniqueness.Kinds.{apostrophe, quotation, punctuation, class_of, other_class, Form, keyword, name, number, character, string, mark, form}
+use Rattle.c_tokens.proofs.uniqueness.Tokens.{form_begins, token_some, token_of_word, token_of_character, token_of_string, token_of_mark}
+use Rattle.std.proofs.Math.Seq.{take-add}
+use Rattle.c_tokens.specs.declared.token.LexRefusal.TheVariants as refusal
 
-token_at_length : (kind : Kind) (bytes text rest : List ℕ) (len : ℕ) → bytes ≡ text ++ rest → length text ≡ len → IsToken kind text rest → IsTokenOf bytes kind len
+token_at_length : (kind : Kind) (bytes text rest : List ℕ) (len : ℕ) → bytes ≡ text ++ rest → length text ≡ len → IsToken kind text rest → BeginsWithToken bytes kind len
 token_at_length kind bytes text rest len e l token = record {
   some = omega (arith, token_some kind text rest token);
   inside = omega (arith, ap length e, length-append text rest);
@@ -66,16 +66,16 @@ module _ (bytes : List ℕ) (len : ℕ) (is : len ≡ prefix_len is_word_byte by
       let some = prefix_some is_word_byte bytes (begins-weaker p is_word_byte bytes word first) in
       begins-take p bytes len first (omega arith)
 
-  pub keyword_token : (k : Keyword) → take len bytes ≡ keyword_text k → IsTokenOf bytes (Word k) len
+  pub keyword_token : (k : Keyword) → take len bytes ≡ keyword_text k → BeginsWithToken bytes (Word k) len
   keyword_token k e = token_at_length (Word k) bytes (take len bytes) (drop len bytes) len run_cut run_length (token_of_word (drop len bytes) e (keyword k refl e) refl run_stops)
 
-  pub name_token : begins is_name_start bytes ≡ true → IsNoKeyword (take len bytes) → IsTokenOf bytes (Name (take len bytes)) len
+  pub name_token : begins is_name_start bytes ≡ true → IsNoKeyword (take len bytes) → BeginsWithToken bytes (Name (take len bytes)) len
   name_token first free =
       let identifier : IsIdentifier (take len bytes) = (run_begins is_name_start (λ b e. or_left (is_name_start b) (is_digit b) e) first, run_word) in
       token_at_length (Name (take len bytes)) bytes (take len bytes) (drop len bytes) len run_cut run_length
       (token_of_word (drop len bytes) (refl, identifier, free) (name refl identifier free) refl run_stops)
 
-  pub number_token : (n : ℤ) (value : ℕ) → n ≡ pos value → IsNumber (take len bytes) value → IsTokenOf bytes (Number n) len
+  pub number_token : (n : ℤ) (value : ℕ) → n ≡ pos value → IsNumber (take len bytes) value → BeginsWithToken bytes (Number n) len
   number_token n value e is_number =
       token_at_length (Number n) bytes (take len bytes) (drop len bytes) len run_cut run_length
       (token_of_word (drop len bytes) (value, e, inl is_number) (number value (ap Number e) is_number) refl run_stops)
@@ -104,14 +104,14 @@ module _ (quote len : ℕ) (bytes : List ℕ) (first : begins (λ b. nat_eq b qu
   quoted_length = omega (arith, length-append (take len (drop 1 bytes)) (quote ∷ []), length-take-le len (drop 1 bytes) inside)
 
 pub character_token : (bytes : List ℕ) (len byte : ℕ) (n : ℤ) → n ≡ pos byte → begins (λ b. nat_eq b 39) bytes ≡ true → len ≤ length (drop 1 bytes)
-    → IsPiece 39 (take len (drop 1 bytes)) byte → starts_with nat_eq (drop len (drop 1 bytes)) (39 ∷ []) ≡ true → IsTokenOf bytes (Number n) (len + 2)
+    → IsPiece 39 (take len (drop 1 bytes)) byte → starts_with nat_eq (drop len (drop 1 bytes)) (39 ∷ []) ≡ true → BeginsWithToken bytes (Number n) (len + 2)
 character_token bytes len byte n e first inside piece closes =
-    subst (λ (m : ℤ). IsTokenOf bytes (Number m) (len + 2)) (sym e)
+    subst (λ (m : ℤ). BeginsWithToken bytes (Number m) (len + 2)) (sym e)
     (token_at_length (Number (pos byte)) bytes _ _ (len + 2) (quoted_cut 39 len bytes first inside closes) (quoted_length 39 len bytes first inside)
     (token_of_character _ _ byte (take len (drop 1 bytes), refl, piece)))
 
 pub string_token : (bytes spelling : List ℕ) (len : ℕ) → begins (λ b. nat_eq b 34) bytes ≡ true → len ≤ length (drop 1 bytes)
-    → ArePieces 34 (take len (drop 1 bytes)) spelling → starts_with nat_eq (drop len (drop 1 bytes)) (34 ∷ []) ≡ true → IsTokenOf bytes (Text spelling) (len + 2)
+    → ArePieces 34 (take len (drop 1 bytes)) spelling → starts_with nat_eq (drop len (drop 1 bytes)) (34 ∷ []) ≡ true → BeginsWithToken bytes (Text spelling) (len + 2)
 string_token bytes spelling len first inside pieces closes =
     token_at_length (Text spelling) bytes _ _ (len + 2) (quoted_cut 34 len bytes first inside closes) (quoted_length 34 len bytes first inside)
     (token_of_string _ _ spelling (take len (drop 1 bytes), refl, pieces))
@@ -161,9 +161,14 @@ open_string_refused line bytes spelling len first are none unclosed = (
       let parts = string_parts bytes rest (ap class_of (begins_one 34 bytes first)) e (form kind text spelled) in
       let same = take-append-drop len body ∙ parts.2 in
       let cut = ArePieces-same 34 (take len body) parts.0 (drop len body) (34 ∷ rest) spelling parts.1 same are parts.3 none (BeginsNoPiece-quote 34 rest (eqb-false 34 92 refl)) in
-      let closes = fronts_same (take len body) parts.0 (drop len body) (34 ∷ rest) same (ap length cut.0) in
+      let closes = prefixes_same (take len body) parts.0 (drop len body) (34 ∷ rest) same (ap length cut.0) in
       both_ways (starts_with nat_eq (drop len body) (34 ∷ [])) unclosed ((starts (drop len body) (34 ∷ [])).1 rest closes.1),
 )
+
+-- one more piece behind those so far
+pub pieces_more : (bytes spelling : List ℕ) (len piece byte : ℕ) → ArePieces 34 (take len bytes) spelling → IsPiece 34 (take piece (drop len bytes)) byte
+    → ArePieces 34 (take (len + piece) bytes) (spelling ++ byte ∷ [])
+pieces_more bytes spelling len piece byte before last = rw take-add (ArePieces-push 34 (take len bytes) spelling (take piece (drop len bytes)) byte before last)
 
 -- ---- marks
 
@@ -202,10 +207,10 @@ module _ (bytes : List ℕ) (blank_free : begins_blank bytes ≡ false) where
       both_ways (begins_with_two 47 47 bytes) (or_parts (begins is_white bytes) (begins_with_two 47 47 bytes) parts.0).1 line
 
   pub mark_token : (m : AMark) → starts_with nat_eq bytes (47 ∷ 42 ∷ []) ≡ false → find (λ o. starts_with nat_eq bytes (mark_text o)) MARKS ≡ Some m
-      → IsTokenOf bytes (Mark m) (length (mark_text m))
+      → BeginsWithToken bytes (Mark m) (length (mark_text m))
   mark_token m not_open found =
       let rest = drop (length (mark_text m)) bytes in
-      let cut = mark_front bytes m found in
+      let cut = mark_found bytes m found in
       token_at_length (Mark m) bytes (mark_text m) rest (length (mark_text m)) cut refl
       (token_of_mark m rest (λ o behind e. mark_longest bytes behind m o found (cut ∙ e)) (λ opens. closed not_open (subst OpensComment (sym cut) opens)))
 

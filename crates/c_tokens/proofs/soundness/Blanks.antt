@@ -1,32 +1,16 @@
--- What the parts of the lexer find, as the definitions say it.
+-- What the lexer takes for white space and comments is that, and what it leaves begins with none.
 use Rattle.std.proofs.Common.{◌≡◌, ◌≢◌, ℕ, suc, ◌+◌, ◌<◌, ◌≤◌, ◌⊎◌, inl, inr, Bool, false, not, nat_eq, IsTrue, List, [], ◌∷◌, ◌++◌, length, get_or, take, drop, refl, sym, ap, ◌∙◌, subst, ⊎_elim, arith, append_assoc, length-append, take-append-drop}
 use Rattle.std.proofs.Math.Seq.{take-add}
 use Rattle.std.specs.List.{All, prefix_len}
 use Rattle.std.proofs.lemmas.Bool.{or_from, and_parts, eqb-true, eqb-false, false_from_ne_true, cases_lt, not-true, not-false}
-use Rattle.std.proofs.lemmas.List.{take_at, drop_at, length-take-le, length-drop, drop_more, drop-drop, get_or-take, get_or_append_left, get_or_at}
+use Rattle.std.proofs.lemmas.List.{length-take-le, length-drop, drop_more, drop-drop, get_or-take, get_or_append_left, get_or_at}
 use Rattle.std.proofs.lemmas.List.Elements.{All-weaker}
 use Rattle.std.proofs.lemmas.List.Sums.{prefix_len-le-length}
 use Rattle.c_tokens.specs.Bytes.{begins, begins_with_two}
 use Rattle.c_tokens.specs.Blank.{has_close, IsBlank, IsBlankPart}
-use Rattle.c_tokens.specs.Spell.{IsPiece, ArePieces}
-use Rattle.c_tokens.specs.Scan.{begins_blank, IsCloseAt}
-use Rattle.c_tokens.proofs.Lists.{All-prefix, begins_after_prefix}
-use Rattle.c_tokens.proofs.Blanks.{IsBlank-push}
-use Rattle.c_tokens.proofs.Pieces.{ArePieces-push}
-
--- a fact on the two parts of a list, read at their length
-pub split_at_length : (P : List ℕ → List ℕ → Type 0) (bytes text rest : List ℕ) (len : ℕ) → bytes ≡ text ++ rest → length text ≡ len → P text rest → P (take len bytes) (drop len bytes)
-split_at_length P bytes text rest len e l p =
-    let front : take len bytes ≡ text = ap (take len) e ∙ take_at text rest len l in
-    let back : drop len bytes ≡ rest = ap (drop len) e ∙ drop_at text rest len l in
-    subst (λ (t : List ℕ). P t (drop len bytes)) (sym front) (subst (λ (r : List ℕ). P text r) (sym back) p)
-
-pub front_two : (bytes : List ℕ) (a b : ℕ) → 2 ≤ length bytes → get_or bytes 0 0 ≡ a → get_or bytes 1 0 ≡ b → bytes ≡ a ∷ b ∷ drop 2 bytes
-front_two [] a b long e d = absurd (omega arith)
-front_two (x ∷ []) a b long e d = absurd (omega arith)
-front_two (x ∷ y ∷ bs) a b long e d = (λ i. e i ∷ d i ∷ bs)
-
--- ---- comments
+use Rattle.c_tokens.specs.inner.Scan.{begins_blank, IsCloseAt}
+use Rattle.c_tokens.proofs.ListLemmas.{All-prefix, begins_after_prefix, split_at_length}
+use Rattle.c_tokens.proofs.BlankLemmas.{IsBlank-push}
 
 no_close : (bytes : List ℕ) → ((k : ℕ) → k + 1 < length bytes → IsCloseAt bytes k → ⊥) → has_close bytes ≡ false
 no_close [] none = refl
@@ -43,17 +27,17 @@ no_close (b ∷ c ∷ bs) none =
 -- before the first `*/` no other stands, also not with the `*` that begins it
 first_close : (bytes : List ℕ) (place : ℕ) → place + 1 < length bytes → ((k : ℕ) → k < place → IsCloseAt bytes k → ⊥) → has_close (take place bytes ++ 42 ∷ []) ≡ false
 first_close bytes place inside first =
-    let front = take place bytes in
-    let long : length front ≡ place = length-take-le place bytes (omega arith) in
-    no_close (front ++ 42 ∷ []) (λ k below close.
-    let within : k < place = omega (arith, length-append front (42 ∷ [])) in
-    let here : get_or (front ++ 42 ∷ []) k 0 ≡ get_or bytes k 0 = get_or_append_left front (42 ∷ []) 0 k (omega arith) ∙ get_or-take place bytes k 0 within in
+    let prefix = take place bytes in
+    let long : length prefix ≡ place = length-take-le place bytes (omega arith) in
+    no_close (prefix ++ 42 ∷ []) (λ k below close.
+    let within : k < place = omega (arith, length-append prefix (42 ∷ [])) in
+    let here : get_or (prefix ++ 42 ∷ []) k 0 ≡ get_or bytes k 0 = get_or_append_left prefix (42 ∷ []) 0 k (omega arith) ∙ get_or-take place bytes k 0 within in
     ⊎_elim
     (λ more.
-    let next : get_or (front ++ 42 ∷ []) (k + 1) 0 ≡ get_or bytes (k + 1) 0 = get_or_append_left front (42 ∷ []) 0 (k + 1) (omega arith) ∙ get_or-take place bytes (k + 1) 0 more in
+    let next : get_or (prefix ++ 42 ∷ []) (k + 1) 0 ≡ get_or bytes (k + 1) 0 = get_or_append_left prefix (42 ∷ []) 0 (k + 1) (omega arith) ∙ get_or-take place bytes (k + 1) 0 more in
     first k within (sym here ∙ close.0, sym next ∙ close.1))
     (λ last.
-    let star : get_or (front ++ 42 ∷ []) (k + 1) 0 ≡ 42 = get_or_at front 42 [] 0 (k + 1) (omega arith) in
+    let star : get_or (prefix ++ 42 ∷ []) (k + 1) 0 ≡ 42 = get_or_at prefix 42 [] 0 (k + 1) (omega arith) in
     omega (arith, star, close.1))
     (cases_lt (k + 1) place))
 
@@ -106,7 +90,3 @@ blank_more bytes len part before last =
     let behind = sym (take-append-drop part (drop len bytes)) in
     let all = IsBlank-push (take len bytes) (take part (drop len bytes)) (drop part (drop len bytes)) (subst (P (take len bytes)) behind before) last in
     rw (take-add, ← drop-drop) all
-
-pub pieces_more : (bytes spelling : List ℕ) (len piece byte : ℕ) → ArePieces 34 (take len bytes) spelling → IsPiece 34 (take piece (drop len bytes)) byte
-    → ArePieces 34 (take (len + piece) bytes) (spelling ++ byte ∷ [])
-pieces_more bytes spelling len piece byte before last = rw take-add (ArePieces-push 34 (take len bytes) spelling (take piece (drop len bytes)) byte before last)

@@ -1,4 +1,4 @@
--- The forms of a token's text, told apart by the first byte.
+-- A text has one kind: the forms of a text, told apart by its first byte.
 use Rattle.std.proofs.Common.{◌≡◌, ◌≢◌, ℕ, pos, ◌<◌, inl, inr, Bool, true, false, not, cond, nat_eq, IsTrue, Some, List, [], ◌∷◌, ◌++◌, length, refl, sym, ap, ◌∙◌, subst, arith}
 use Rattle.std.specs.List.{All}
 use Rattle.std.specs.Str.{bytes_eq}
@@ -14,9 +14,9 @@ use Rattle.c_tokens.specs.declared.mark.TheConstants.{MARKS}
 use Rattle.c_tokens.specs.Bytes.{is_white, is_digit, is_name_start, is_word_byte, begins}
 use Rattle.c_tokens.specs.Words.{keyword_text, mark_text}
 use Rattle.c_tokens.specs.Spell.{IsIdentifier, IsNoKeyword, IsNumber, IsCharacter, IsString, Spells}
-use Rattle.c_tokens.proofs.Tables.{keyword_of_text, mark_of_text, IsIdentifier-keyword, is_other_byte, mark_begins}
-use Rattle.c_tokens.proofs.Pieces.{IsCharacter-same, IsString-same}
-use Rattle.c_tokens.proofs.Numbers.{IsDigitRun-of, IsNumber-same}
+use Rattle.c_tokens.proofs.WordsLemmas.{keyword_of_text, mark_of_text, IsIdentifier-keyword, is_other_byte, mark_begins}
+use Rattle.c_tokens.proofs.uniqueness.Pieces.{IsCharacter-same, IsString-same}
+use Rattle.c_tokens.proofs.uniqueness.Numbers.{IsDigitRun-of, IsNumber-same}
 
 -- what the first byte says of the token that it begins
 pub data Class : Type 0 where
@@ -49,9 +49,9 @@ pub other_class : (bytes : List ℕ) → begins (λ b. not (is_other_byte b)) by
 other_class [] e = absurd (false≢true e)
 other_class (b ∷ bs) e = grind (arith, nat_tests)
 
-pub class_of-front : (xs ys : List ℕ) → 0 < length xs → class_of (xs ++ ys) ≡ class_of xs
-class_of-front [] ys some = absurd (omega arith)
-class_of-front (x ∷ xs) ys some = refl
+pub class_of-append : (xs ys : List ℕ) → 0 < length xs → class_of (xs ++ ys) ≡ class_of xs
+class_of-append [] ys some = absurd (omega arith)
+class_of-append (x ∷ xs) ys some = refl
 
 -- the six forms
 pub data Form (kind : Kind) (text : List ℕ) : Type 0 where

@@ -11,15 +11,16 @@ use Rattle.c_tokens.specs.declared.token.LexRefusal.TheVariants.{Byte, Number, T
 use Rattle.c_tokens.specs.Bytes.{is_white, is_digit, is_quote, is_word_byte, begins, begins_with_two}
 use Rattle.c_tokens.specs.Spell.{IsToken, IsNumber}
 use Rattle.c_tokens.specs.Blank.{IsBlank}
-use Rattle.c_tokens.specs.Lex.{line_at, StandsAt, LexesTo, Lexes, IsBad, refused_line, IsRefused, IsAnswer}
-use Rattle.c_tokens.specs.Scan.{begins_blank}
-use Rattle.c_tokens.proofs.Lists.{fronts_same, prefix_len-front}
-use Rattle.c_tokens.proofs.Blanks.{IsBlank-same, two_bytes}
-use Rattle.c_tokens.proofs.Forms.{digit, apostrophe, quotation, class_of_byte, class_of, digit_class, Form, number, form, class_of_form}
-use Rattle.c_tokens.proofs.Numbers.{IsDigitRun-of}
-use Rattle.c_tokens.proofs.Tokens.{form_begins, IsToken-same, no_comment_in, no_white, no_blank, token_begins_no_blank, token_some}
+use Rattle.c_tokens.specs.Lex.{line_at, StandsAt, LexesTo, Lexes, IsBad, refused_line, IsRefused}
+use Rattle.c_tokens.specs.Answer.{IsAnswer}
+use Rattle.c_tokens.specs.inner.Scan.{begins_blank}
+use Rattle.c_tokens.proofs.ListLemmas.{prefixes_same, prefix_len-append}
+use Rattle.c_tokens.proofs.BlankLemmas.{IsBlank-same, two_bytes}
+use Rattle.c_tokens.proofs.uniqueness.Kinds.{digit, apostrophe, quotation, class_of_byte, class_of, digit_class, Form, number, form, class_of_form}
+use Rattle.c_tokens.proofs.uniqueness.Numbers.{IsDigitRun-of}
+use Rattle.c_tokens.proofs.uniqueness.Tokens.{form_begins, IsToken-same, no_comment_in, no_white, no_blank, token_begins_no_blank, token_some}
 
--- ---- where no reading can go on
+-- ---- where no list of tokens goes on
 
 pub record Ends (bytes : List ℕ) (place : ℕ) : Type 0 where
   pub inside : place ≤ length bytes
@@ -60,15 +61,15 @@ module _ (bytes : List ℕ) where
       let place = gap_same bytes at end t.from up s.behind ends.inside (omega arith) gap s.gap ends.no_blank (stands_no_blank t s) in
       ends.no_token t.kind (slice_range bytes t.from t.to) (drop t.to bytes) (ap (λ n. drop n bytes) place ∙ stands_at t s) s.token
 
-  readings_same : (at : ℕ) (ts us : List Token) (end last : ℕ) → LexesTo bytes at ts end → LexesTo bytes at us last
+  lists_same : (at : ℕ) (ts us : List Token) (end last : ℕ) → LexesTo bytes at ts end → LexesTo bytes at us last
       → Ends bytes end → Ends bytes last → (ts ≡ us) × (end ≡ last)
-  readings_same at [] [] end last p q ends lasts =
+  lists_same at [] [] end last p q ends lasts =
       (refl, gap_same bytes at end last p.0 q.0 ends.inside lasts.inside p.1 q.1 ends.no_blank lasts.no_blank)
-  readings_same at [] (u ∷ us) end last p q ends lasts = absurd (no_token_at_end at u end p.0 p.1 ends q.0)
-  readings_same at (t ∷ ts) [] end last p q ends lasts = absurd (no_token_at_end at t last q.0 q.1 lasts p.0)
-  readings_same at (t ∷ ts) (u ∷ us) end last p q ends lasts =
+  lists_same at [] (u ∷ us) end last p q ends lasts = absurd (no_token_at_end at u end p.0 p.1 ends q.0)
+  lists_same at (t ∷ ts) [] end last p q ends lasts = absurd (no_token_at_end at t last q.0 q.1 lasts p.0)
+  lists_same at (t ∷ ts) (u ∷ us) end last p q ends lasts =
       let first = token_same at t u p.0 q.0 in
-      let later = readings_same t.to ts us end last p.1 (subst (λ (n : ℕ). LexesTo bytes n us last) (ap (λ x. x.to) (sym first)) q.1) ends lasts in
+      let later = lists_same t.to ts us end last p.1 (subst (λ (n : ℕ). LexesTo bytes n us last) (ap (λ x. x.to) (sym first)) q.1) ends lasts in
       (λ i. first i ∷ later.0 i, later.1)
 
   Ends-length : Ends bytes (length bytes)
@@ -114,9 +115,9 @@ bad_no_token (Number line) bytes (first, (run, behind, cut, all, stops, no_numbe
     let f = form kind text token.spelled in
     let is = number_form f (sym (form_begins f rest) ∙ ap class_of (sym e) ∙ digit_class bytes first) in
     let digits = IsDigitRun-of text is.0 is.1 in
-    let one = prefix_len-front is_word_byte run behind all stops in
-    let two = prefix_len-front is_word_byte text rest digits.all (token.whole digits.first) in
-    let same = fronts_same run text behind rest (sym cut ∙ e) (sym one ∙ ap (prefix_len is_word_byte) (sym cut ∙ e) ∙ two) in
+    let one = prefix_len-append is_word_byte run behind all stops in
+    let two = prefix_len-append is_word_byte text rest digits.all (token.whole digits.first) in
+    let same = prefixes_same run text behind rest (sym cut ∙ e) (sym one ∙ ap (prefix_len is_word_byte) (sym cut ∙ e) ∙ two) in
     no_number is.0 (subst (λ (t : List ℕ). IsNumber t is.0) (sym same.0) is.1)
 bad_no_token (Text line) bytes (first, none) kind text rest e token = none kind text rest e token.spelled
 bad_no_token (Byte line) bytes (some, others, closed, none) kind text rest e token = none kind text rest e token.spelled
@@ -154,27 +155,27 @@ module _ (bytes : List ℕ) where
   }
 
   pub Lexes-same : (ts us : List Token) → Lexes bytes ts → Lexes bytes us → ts ≡ us
-  Lexes-same ts us p q = (readings_same bytes 0 ts us (length bytes) (length bytes) p q (Ends-length bytes) (Ends-length bytes)).0
+  Lexes-same ts us p q = (lists_same bytes 0 ts us (length bytes) (length bytes) p q (Ends-length bytes) (Ends-length bytes)).0
 
-  pub no_token_list : (ts : List Token) (refusal : LexRefusal) → Lexes bytes ts → IsRefused bytes refusal → ⊥
-  no_token_list ts refusal p r =
-      let same = (readings_same bytes 0 ts r.tokens (length bytes) r.place p r.before (Ends-length bytes) (Ends-refused refusal r)).1 in
+  pub never_both : (ts : List Token) (refusal : LexRefusal) → Lexes bytes ts → IsRefused bytes refusal → ⊥
+  never_both ts refusal p r =
+      let same = (lists_same bytes 0 ts r.tokens (length bytes) r.place p r.before (Ends-length bytes) (Ends-refused refusal r)).1 in
       bad_some refusal (subst (IsBad refusal) (drop_all r.place bytes (omega arith)) r.bad)
 
   pub IsRefused-same : (refusal second : LexRefusal) → IsRefused bytes refusal → IsRefused bytes second → refusal ≡ second
   IsRefused-same refusal second r s =
-      let place = (readings_same bytes 0 r.tokens s.tokens r.place s.place r.before s.before (Ends-refused refusal r) (Ends-refused second s)).1 in
+      let place = (lists_same bytes 0 r.tokens s.tokens r.place s.place r.before s.before (Ends-refused refusal r) (Ends-refused second s)).1 in
       let line : refused_line refusal ≡ refused_line second = r.line ∙ ap (line_at bytes) place ∙ sym s.line in
       bad_is refusal (drop r.place bytes) r.bad ∙ (λ i. refusal_at (drop (place i) bytes) (line i)) ∙ sym (bad_is second (drop s.place bytes) s.bad)
 
   pub answer_only : (result : Result (List Token) LexRefusal) → IfOk result (Lexes bytes) → IfErr result (λ e. e ≢ Memory → IsRefused bytes e)
-      → (tokens : List Token) → Lexes bytes tokens → IsAnswer result (Ok tokens)
+      → (tokens : List Token) → Lexes bytes tokens → IsAnswer Memory result (Ok tokens)
   answer_only (Ok found) lexes refused tokens p = inl (ap Ok (Lexes-same found tokens lexes p))
   answer_only (Err Memory) lexes refused tokens p = inr refl
-  answer_only (Err refusal) lexes refused tokens p = absurd (no_token_list tokens refusal p (refused (λ e. cc)))
+  answer_only (Err refusal) lexes refused tokens p = absurd (never_both tokens refusal p (refused (λ e. cc)))
 
   pub answer_refuses : (result : Result (List Token) LexRefusal) → IfOk result (Lexes bytes) → IfErr result (λ e. e ≢ Memory → IsRefused bytes e)
-      → (refusal : LexRefusal) → IsRefused bytes refusal → IsAnswer result (Err refusal)
-  answer_refuses (Ok found) lexes refused refusal r = absurd (no_token_list found refusal lexes r)
+      → (refusal : LexRefusal) → IsRefused bytes refusal → IsAnswer Memory result (Err refusal)
+  answer_refuses (Ok found) lexes refused refusal r = absurd (never_both found refusal lexes r)
   answer_refuses (Err Memory) lexes refused refusal r = inr refl
   answer_refuses (Err second) lexes refused refusal r = inl (ap Err (IsRefused-same second refusal (refused (λ e. cc)) r))

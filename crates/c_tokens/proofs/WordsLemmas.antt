@@ -1,4 +1,4 @@
--- The keywords and marks: laws that the checker computes over a whole table.
+-- The keywords and marks: lemmas that the checker computes over a whole table.
 use Rattle.std.proofs.Common.{◌≡◌, ℕ, ◌≤◌, Bool, true, not, ◌&&◌, ◌||◌, leb, Some, None, List, [], ◌∷◌, ◌++◌, length, drop, refl, sym, ap, ◌∙◌, nat_eq, IsTrue, arith, zero, suc, ⊎_elim}
 use Rattle.std.specs.Str.{bytes_eq}
 use Rattle.std.specs.List.{All, Contains, list_all, find, position_or_len, starts_with}
@@ -16,7 +16,7 @@ use Rattle.c_tokens.specs.declared.mark.TheConstants.{MARKS}
 use Rattle.c_tokens.specs.Bytes.{is_white, is_quote, is_name_start, is_word_byte, begins}
 use Rattle.c_tokens.specs.Words.{keyword_text, mark_text}
 use Rattle.c_tokens.specs.Spell.{IsIdentifier, IsNoKeyword}
-use Rattle.c_tokens.proofs.Lists.{find_passes, find_misses}
+use Rattle.c_tokens.proofs.ListLemmas.{find_passes, find_misses}
 
 -- no two keywords and no two marks have one text
 pub keyword_of_text : (k : Keyword) → find (λ o. bytes_eq (keyword_text o) (keyword_text k)) KEYWORDS ≡ Some k
@@ -85,13 +85,13 @@ first_longest p (x ∷ xs) m o falls found (suc k, below, is) passes =
     (λ past. first_longest p xs m o parts.1 (sym (cond-false (p x) (Some x) (find p xs) past) ∙ found) inside passes)
     (cases_Bool (p x))
 
--- the text is a front of the bytes
+-- the text is a prefix of the bytes
 begins_with : (bytes text rest : List ℕ) → bytes ≡ text ++ rest → starts_with nat_eq bytes text ≡ true
 begins_with bytes text rest e = (starts_is Decides-eqb bytes text (starts_with nat_eq bytes text) refl).1 rest e
 
-pub mark_front : (bytes : List ℕ) (m : Mark) → find (λ o. starts_with nat_eq bytes (mark_text o)) MARKS ≡ Some m
+pub mark_found : (bytes : List ℕ) (m : Mark) → find (λ o. starts_with nat_eq bytes (mark_text o)) MARKS ≡ Some m
     → bytes ≡ mark_text m ++ drop (length (mark_text m)) bytes
-mark_front bytes m found =
+mark_found bytes m found =
     (starts_is Decides-eqb bytes (mark_text m) (starts_with nat_eq bytes (mark_text m)) refl).0 (find_passes (λ o. starts_with nat_eq bytes (mark_text o)) MARKS m found)
 
 pub mark_longest : (bytes rest : List ℕ) (m o : Mark) → find (λ a. starts_with nat_eq bytes (mark_text a)) MARKS ≡ Some m

@@ -1,4 +1,4 @@
--- One place has at most one token: each form ends where it must, and blanks, tokens and refusals exclude one another.
+-- One place has at most one token: each form ends where it must, and where a token begins no blank does.
 use Rattle.std.proofs.Common.{◌≡◌, ◌≢◌, ℕ, pos, ◌<◌, ◌≤◌, inl, inr, true, false, ◌||◌, List, [], ◌∷◌, ◌++◌, length, refl, sym, ap, ◌∙◌, subst, arith}
 use Rattle.std.specs.List.{prefix_len}
 use Rattle.std.proofs.lemmas.Bool.{false≢true, or_from, and_left, false_from_ne_true, cond-true}
@@ -8,15 +8,15 @@ use Rattle.c_tokens.specs.declared.token.Mark.{Mark as AMark}
 use Rattle.c_tokens.specs.Bytes.{is_white, is_word_byte, begins, begins_with_two}
 use Rattle.c_tokens.specs.Words.{mark_text}
 use Rattle.c_tokens.specs.Spell.{IsCharacter, IsString, Spells, OpensComment, IsLongest, IsToken}
-use Rattle.c_tokens.specs.Scan.{begins_blank}
-use Rattle.c_tokens.proofs.Lists.{fronts_same, prefix_len-front, prefix_len-at_least}
-use Rattle.c_tokens.proofs.Blanks.{two_bytes}
-use Rattle.c_tokens.proofs.Pieces.{IsCharacter-same, IsString-same}
-use Rattle.c_tokens.proofs.Forms.{white, punctuation, class_of, class_of-front, digit_class, Form, keyword, character, string, mark, form, class_of_form, form_class, Form-some, Spells-same, is_word_class, form_word}
+use Rattle.c_tokens.specs.inner.Scan.{begins_blank}
+use Rattle.c_tokens.proofs.ListLemmas.{prefixes_same, prefix_len-append, prefix_len-at_least}
+use Rattle.c_tokens.proofs.BlankLemmas.{two_bytes}
+use Rattle.c_tokens.proofs.uniqueness.Pieces.{IsCharacter-same, IsString-same}
+use Rattle.c_tokens.proofs.uniqueness.Kinds.{white, punctuation, class_of, class_of-append, digit_class, Form, keyword, character, string, mark, form, class_of_form, form_class, Form-some, Spells-same, is_word_class, form_word}
 
 -- the class of bytes that a form begins
 pub form_begins : {kind : Kind} {text : List ℕ} (f : Form kind text) (rest : List ℕ) → class_of (text ++ rest) ≡ class_of_form f
-form_begins {text} f rest = class_of-front text rest (Form-some f) ∙ form_class f
+form_begins {text} f rest = class_of-append text rest (Form-some f) ∙ form_class f
 
 -- ---- the longest
 
@@ -26,7 +26,7 @@ longest_word {text} f rest word stops kind found behind e spelled =
     let g = form kind found spelled in
     let classes : class_of_form f ≡ class_of_form g = sym (form_begins f rest) ∙ ap class_of e ∙ form_begins g behind in
     let all = form_word g (ap is_word_class (sym classes) ∙ word) in
-    let long = prefix_len-front is_word_byte text rest (form_word f word) stops in
+    let long = prefix_len-append is_word_byte text rest (form_word f word) stops in
     omega (arith, prefix_len-at_least is_word_byte found behind all, ap (prefix_len is_word_byte) e, long)
 
 -- a character, a string or a mark
@@ -121,7 +121,7 @@ token_of_mark m rest longest no_comment =
 pub IsToken-same : (kind second : Kind) (text found rest behind : List ℕ) → text ++ rest ≡ found ++ behind
     → IsToken kind text rest → IsToken second found behind → (text ≡ found) × (kind ≡ second)
 IsToken-same kind second text found rest behind e one two =
-    let cut = fronts_same text found rest behind e (omega (arith, one.longest second found behind e two.spelled, two.longest kind text rest (sym e) one.spelled)) in
+    let cut = prefixes_same text found rest behind e (omega (arith, one.longest second found behind e two.spelled, two.longest kind text rest (sym e) one.spelled)) in
     (cut.0, Spells-same kind second found (subst (Spells kind) cut.0 one.spelled) two.spelled)
 
 -- ---- blanks

@@ -1,5 +1,0 @@
-use Rattle.c_tokens.proofs.Spaced.{spaced_lexes}
-use Rattle.c_tokens.proofs.lexer.spaced_text_lexes.Goals as goal
-
-pub returns : goal.returns
-returns c = spaced_lexes

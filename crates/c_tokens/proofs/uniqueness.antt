@@ -1,0 +1,5 @@
+pub mod Pieces
+pub mod Numbers
+pub mod Kinds
+pub mod Tokens
+pub mod Texts
