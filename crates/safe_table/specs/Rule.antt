@@ -124,9 +124,9 @@ any_crowded [] = false
 any_crowded (c ∷ cs) = is_crowded c.action c.reply || any_crowded cs
 
 -- of how many numbers below n the calls pass a test
-abbrev pub count_by : (List StoreCall → Bool) → ℕ → List StoreCall → ℕ
-count_by test zero h = 0
-count_by test (suc n) h = count_by test n h + cond (test (calls_by n h)) 1 0
+abbrev pub numbers_with : (List StoreCall → Bool) → ℕ → List StoreCall → ℕ
+numbers_with test zero h = 0
+numbers_with test (suc n) h = numbers_with test n h + cond (test (calls_by n h)) 1 0
 
 -- the slot behind all that were asked for
 abbrev pub next_slot : List StoreCall → ℕ
@@ -136,13 +136,13 @@ next_slot h = 1026 + slots_asked (calls h)
 pub record SlotsFit (z : StoreSize) (words : List ℕ) (h : List StoreCall) : Type 0 where
   pub next : (1026 + slice_index words slot_word ≡ next_slot h)
       ⊎ ((z.slots < 1026 + slice_index words slot_word) × (z.slots < next_slot h))
-  pub bound : slice_index words slot_word ≤ z.slots + 256 * count_by any_late z.threads h
+  pub bound : slice_index words slot_word ≤ z.slots + 256 * numbers_with any_late z.threads h
   pub late : (k : ℕ) (c : StoreCall) → get_elem? h k ≡ some c → is_late c.action c.reply ≡ true → z.slots < next_slot h
 
 -- thread numbers: the count is the lesser of what the thread word tells and the limit
 pub record ThreadsFit (z : StoreSize) (words : List ℕ) (h : List StoreCall) : Type 0 where
   pub count : 1 + threads_made (calls h) ≡ min (1 + slice_index words thread_word) z.threads
-  pub bound : slice_index words thread_word ≤ z.threads + count_by any_crowded z.threads h
+  pub bound : slice_index words thread_word ≤ z.threads + numbers_with any_crowded z.threads h
   pub crowded : (k : ℕ) (c : StoreCall) → get_elem? h k ≡ some c → is_crowded c.action c.reply ≡ true
       → 1 + threads_made (calls h) ≡ z.threads
 

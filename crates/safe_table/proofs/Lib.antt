@@ -1,0 +1,6 @@
+mod HistoryLemmas
+mod ListLemmas
+mod NumbersWith
+mod Puts
+mod ViewsFit
+mod WordsFit
