@@ -1,6 +1,10 @@
 mod HistoryLemmas
+mod IdsEnded
 mod ListLemmas
 mod NumbersWith
-mod Puts
+mod PutsAndGets
+mod Seats
+mod SlotsDrawn
+mod ThreadsForked
 mod ViewsFit
 mod WordsFit

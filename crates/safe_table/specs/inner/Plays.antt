@@ -90,7 +90,7 @@ ThreadIs z false found t = (1 + found < z.threads → t ≡ Some (1 + found)) ×
 abbrev pub Forks : Step ℕ → Sat → ℕ → Sat → Type 0
 Forks st m found m' = (m'.1 ≡ m.1) × ((x : Held) → m.0.held ≡ x ∷ []
     → (t : Option ℕ) × Calls m.0 m'.0 x (call x.number Fork (Thread t) 0 0)
-    × ThreadIs m.0.size (any_crowded x.mine) found t)
+    × ThreadIs m.0.size (any_crowded x.mine) found t × (found ≤ 2 * m.0.size.threads))
 
 -- a load of word 0: the history so far, with all calls of the numbers held and no others of these
 pub record Learns (v w : View) : Type 0 where
