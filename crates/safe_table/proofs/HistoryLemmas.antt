@@ -1,18 +1,16 @@
 -- Histories: one call more, and beginnings.
-use Rattle.std.proofs.Common.{◌≡◌, ◌≢◌, ℕ, suc, ◌+◌, ◌*◌, ◌<◌, ◌≤◌, ◌⊎◌, Bool, true, false, ◌||◌, ◌&&◌, cond, eqb, List, [], ◌∷◌, ◌++◌, map, length, sym, refl, ap, ◌∙◌, subst, inl, inr, ⊎_elim, arith, append_assoc, eq-eqb, ne_eqb}
+use Rattle.std.proofs.Common.{◌≡◌, ◌≢◌, ℕ, suc, ◌+◌, ◌≤◌, Bool, true, false, ◌||◌, ◌&&◌, cond, eqb, List, [], ◌∷◌, ◌++◌, sym, refl, ap, ◌∙◌, subst, ⊎_elim, arith, eq-eqb, ne_eqb}
 use Rattle.std.proofs.lemmas.List.{map-append}
 use Rattle.std.specs.Prelude.{Option, None, Some}
 use mathlib.Core.Logic.{dite}
 use mathlib.Core.Option.{some}
-use mathlib.Core.List.{IsPrefix}
 use native.Mathlib.Decide.{ℕ_discrete}
 use lib.ListN.{get_elem?}
 use Rattle.meaning.specs.declared.value.Entry.{Entry}
-use Rattle.meaning.specs.declared.action.Action.{Action}
 use Rattle.meaning.specs.Legal.{Call, put_at, or_else, last_put, asked, slots_asked, ends, is_ended, is_new_thread, threads_made, IsLegalCall, LegalHistory}
 use Rattle.safe_table.specs.declared.history.StoreCall.{StoreCall}
 use Rattle.safe_table.specs.declared.history.StoreSize.{StoreSize}
-use Rattle.safe_table.specs.History.{answered, calls, last_entry, number_after, number_behind, last_number, is_put, has_number, IsNumbered, IsHistory, calls_by, put_weight, puts}
+use Rattle.safe_table.specs.History.{answered, calls, last_entry, number_after, number_behind, is_put, has_number, IsNumbered, IsHistory, calls_by, put_weight, puts}
 use Rattle.safe_table.proofs.ListLemmas.{cut_snoc, cond_same}
 
 -- Replies are fixed by calls alone

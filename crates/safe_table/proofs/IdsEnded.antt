@@ -1,12 +1,11 @@
 -- An id ends once: an exchange and a load of its end word.
-use Rattle.std.proofs.Common.{◌≡◌, ◌≢◌, ℕ, ◌+◌, ◌*◌, ◌<◌, ◌≤◌, ◌==◌, Bool, true, false, ◌||◌, not, cond, eqb, List, [], ◌∷◌, ◌++◌, length, get_or, set, sym, refl, ap, ◌∙◌, subst, arith, eq-eqb, ne_eqb, length-set, get_or-set_other, get_or-set_same}
+use Rattle.std.proofs.Common.{◌≡◌, ◌≢◌, ℕ, ◌+◌, ◌*◌, ◌<◌, ◌==◌, Bool, true, false, ◌||◌, not, cond, List, [], ◌∷◌, ◌++◌, length, get_or, set, sym, refl, ap, ◌∙◌, subst, arith, eq-eqb, ne_eqb, length-set, get_or-set_other, get_or-set_same}
 use mathlib.Core.Logic.{dite}
-use mathlib.Core.Option.{none, some}
+use mathlib.Core.Option.{none}
 use native.Mathlib.Decide.{ℕ_discrete}
-use lib.ListN.{get_elem?}
 use lib.Seq.{set-get_or}
 use prog.Atomic.{either}
-use Rattle.atomic_table.specs.Table.{State, Me, step, keeps, Allows}
+use Rattle.atomic_table.specs.Table.{Me, step, keeps, Allows}
 use Rattle.meaning.specs.declared.action.Action.TheVariants.{Free, Look}
 use Rattle.meaning.specs.declared.action.Reply.TheVariants.{Flag}
 use Rattle.meaning.specs.Legal.{ends, is_ended}
@@ -15,7 +14,7 @@ use Rattle.safe_table.specs.declared.history.StoreSize.{StoreSize}
 use Rattle.safe_table.specs.declared.view.Held.{Held}
 use Rattle.safe_table.specs.declared.view.View.{View}
 use Rattle.safe_table.specs.History.{call, calls}
-use Rattle.safe_table.specs.Rule.{end_at, records_at, EndsFit, WordsFit, IsKept}
+use Rattle.safe_table.specs.Rule.{end_at, EndsFit, WordsFit}
 use Rattle.safe_table.specs.inner.Views.{called_view}
 use Rattle.safe_table.specs.inner.Plays.{Calls, Ends, Looks}
 use Rattle.safe_table.proofs.ListLemmas.{same_one}
@@ -45,9 +44,9 @@ module _ (z : StoreSize) where
   ends_freed : (words : List ℕ) (h : List StoreCall) (c : StoreCall) (i : ℕ) → end_at z i < length words → c.action ≡ Free i → EndsFit z words h → EndsFit z (set words (3 + 64 * z.slots + i) 1) (h ++ c ∷ [])
   ends_freed words h c i within is f k inside = dite (ℕ_discrete i k)
       (λ same. ap (λ (n : ℕ). get_or (set words (3 + 64 * z.slots + i) 1) (3 + 64 * z.slots + n) 0) (sym same) ∙ (get_or-set_same words (3 + 64 * z.slots + i) 1 0 within
-          ∙ ap (λ b. cond b 1 0) (sym (is_ended-snoc k h c ∙ (ap (λ a. is_ended k (calls h) || ends k a) is ∙ (ap (λ b. is_ended k (calls h) || b) (eq-eqb i k same) ∙ or_true (is_ended k (calls h))))))))
+      ∙ ap (λ b. cond b 1 0) (sym (is_ended-snoc k h c ∙ (ap (λ a. is_ended k (calls h) || ends k a) is ∙ (ap (λ b. is_ended k (calls h) || b) (eq-eqb i k same) ∙ or_true (is_ended k (calls h))))))))
       (λ ne. get_or-set_other words (3 + 64 * z.slots + i) (3 + 64 * z.slots + k) 1 0 (λ e. ne (omega arith)) ∙ (f k inside
-          ∙ ap (λ b. cond b 1 0) (sym (is_ended-snoc k h c ∙ (ap (λ a. is_ended k (calls h) || ends k a) is ∙ (ap (λ b. is_ended k (calls h) || b) (ne_eqb i k ne) ∙ or_same (is_ended k (calls h))))))))
+      ∙ ap (λ b. cond b 1 0) (sym (is_ended-snoc k h c ∙ (ap (λ a. is_ended k (calls h) || ends k a) is ∙ (ap (λ b. is_ended k (calls h) || b) (ne_eqb i k ne) ∙ or_same (is_ended k (calls h))))))))
 
   -- an exchange of an end word from 0 to 1
   pub frees : (slots id : ℕ) (me : Me ℕ View) (i : ℕ) (x : Held) → i < z.slots → me.0.live ≡ true → me.0.held ≡ x ∷ []
@@ -102,3 +101,13 @@ module _ (z : StoreSize) where
         subst (λ (ws : List ℕ). Kept z record { words = ws; homes = s.homes; views = set s.views id w }) (sym (set-get_or s.words p 0)) done.0,
         (refl, λ y is. subst (λ (k : Held). Calls v w k (call k.number (Look i) (Flag (n == 0)) 0 0)) (same_one x y v.held only is) done.1),
       )
+
+  -- the same at a place that is the end word's
+  pub frees_at : (slots id : ℕ) (me : Me ℕ View) (i p : ℕ) (x : Held) → p ≡ end_at z i → i < z.slots → me.0.live ≡ true → me.0.held ≡ x ∷ []
+      → Allows (Kept z) slots id me p (λ n. either (n == 0) 1 n) (Ends i (step slots p 0 1 none) me)
+  frees_at slots id me i p x is inside live only =
+      subst (λ (p : ℕ). Allows (Kept z) slots id me p (λ n. either (n == 0) 1 n) (Ends i (step slots p 0 1 none) me)) (sym is) (frees slots id me i x inside live only)
+
+  pub looks_at : (slots id : ℕ) (me : Me ℕ View) (i p : ℕ) (x : Held) → p ≡ end_at z i → i < z.slots → me.0.live ≡ true → me.0.held ≡ x ∷ []
+      → Allows (Kept z) slots id me p (λ n. n) (Looks i (step slots p 0 0 none) me)
+  looks_at slots id me i p x is inside live only = subst (λ (p : ℕ). Allows (Kept z) slots id me p (λ n. n) (Looks i (step slots p 0 0 none) me)) (sym is) (looks slots id me i x inside live only)

@@ -7,4 +7,5 @@ mod Seats
 mod SlotsDrawn
 mod ThreadsForked
 mod ViewsFit
+mod Whole
 mod WordsFit

@@ -1,12 +1,12 @@
 -- Steps on cells and records: a get, a put, and the words of a record.
-use Rattle.std.proofs.Common.{◌≡◌, ◌≢◌, ℕ, ◌+◌, ◌-◌, ◌*◌, ◌<◌, ◌≤◌, Bool, true, false, cond, eqb, List, [], ◌∷◌, ◌++◌, length, get_or, set, sym, refl, ap, ◌∙◌, subst, ⊎_elim, arith, append_assoc, eq-eqb, ne_eqb, length-set, get_or-set_other, get_or-set_same}
+use Rattle.std.proofs.Common.{◌≡◌, ◌≢◌, ℕ, ◌+◌, ◌-◌, ◌*◌, ◌<◌, ◌≤◌, true, cond, List, [], ◌∷◌, ◌++◌, length, get_or, set, sym, refl, ap, ◌∙◌, subst, ⊎_elim, arith, append_assoc, eq-eqb, ne_eqb, length-set, get_or-set_other, get_or-set_same}
 use Rattle.std.specs.Prelude.{Option, None, Some}
 use mathlib.Core.Logic.{dite}
 use mathlib.Core.Option.{none, some}
 use native.Mathlib.Decide.{ℕ_discrete}
 use lib.ListN.{get_elem?}
 use lib.Seq.{set-get_or}
-use Rattle.atomic_table.specs.Table.{State, Me, step, keeps, Allows}
+use Rattle.atomic_table.specs.Table.{Me, step, keeps, Allows}
 use Rattle.atomic_table.proofs.Lists.{at_snoc}
 use Rattle.meaning.specs.declared.value.Entry.{Entry}
 use Rattle.meaning.specs.declared.action.Action.{Action}
@@ -15,13 +15,12 @@ use Rattle.meaning.specs.declared.action.Reply.TheVariants.{Nothing, Found}
 use Rattle.meaning.specs.Legal.{or_else, put_at, asked, ends, is_new_thread}
 use Rattle.safe_table.specs.declared.history.StoreCall.{StoreCall}
 use Rattle.safe_table.specs.declared.history.StoreSize.{StoreSize}
-use Rattle.safe_table.specs.declared.view.Draft.{Draft}
 use Rattle.safe_table.specs.declared.view.Draft.TheVariants.{Low, Both}
 use Rattle.safe_table.specs.declared.view.Held.{Held}
 use Rattle.safe_table.specs.declared.view.View.{View}
 use Rattle.safe_table.specs.Entries.{IsEntry, low_word, high_word}
-use Rattle.safe_table.specs.History.{call, calls, last_entry, number_after, last_number, is_put, IsNumbered, has_number, calls_by, puts}
-use Rattle.safe_table.specs.Rule.{cell_at, records_at, low_at, high_at, IsMade, Known, entry_of, is_late, is_crowded, next_record, Drafted, HeldFits, NumbersFit, CellsFit, RecordsFit, WordsFit, IsKept}
+use Rattle.safe_table.specs.History.{call, last_entry, number_after, last_number, is_put, IsNumbered, calls_by, puts}
+use Rattle.safe_table.specs.Rule.{cell_at, low_at, high_at, Known, entry_of, is_late, is_crowded, next_record, Drafted, WordsFit}
 use Rattle.safe_table.specs.Seat.{HasRecord}
 use Rattle.safe_table.specs.inner.Views.{with_draft, called_view}
 use Rattle.safe_table.specs.inner.Plays.{Calls, Gets, Reads, WritesLow, WritesHigh, Puts}
@@ -125,10 +124,10 @@ module _ (z : StoreSize) where
               (λ (t : c ≡ d). subst (λ (k : StoreCall). Known z words' h' k.put (entry_of k.action k.reply)) t new_c) (at_snoc h c d k at);
           last = λ b. dite (ℕ_discrete a b)
               (λ same_a. subst (λ (k : ℕ × Option Entry). Known z words' h' k.0 k.1)
-                  (λ i. (sym (after b ∙ (ap (λ t. cond t c.put (last_number b h)) (eq-eqb a b same_a) ∙ number)) i, sym (after_entry b ∙ ap (λ t. or_else (cond t (Some e) None) (last_entry b h)) (eq-eqb a b same_a)) i)) new)
+              (λ i. (sym (after b ∙ (ap (λ t. cond t c.put (last_number b h)) (eq-eqb a b same_a) ∙ number)) i, sym (after_entry b ∙ ap (λ t. or_else (cond t (Some e) None) (last_entry b h)) (eq-eqb a b same_a)) i)) new)
               (λ ne. subst (λ (k : ℕ × Option Entry). Known z words' h' k.0 k.1)
-                  (λ i. (sym (after b ∙ ap (λ t. cond t c.put (last_number b h)) (ne_eqb a b ne)) i, sym (after_entry b ∙ ap (λ t. or_else (cond t (Some e) None) (last_entry b h)) (ne_eqb a b ne)) i))
-                  (old (last_number b h) (last_entry b h) (f.records.last b)));
+              (λ i. (sym (after b ∙ ap (λ t. cond t c.put (last_number b h)) (ne_eqb a b ne)) i, sym (after_entry b ∙ ap (λ t. or_else (cond t (Some e) None) (last_entry b h)) (ne_eqb a b ne)) i))
+              (old (last_number b h) (last_entry b h) (f.records.last b)));
           within = λ m. dite (ℕ_discrete m c.by)
               (λ e. subst (λ (n : ℕ). puts (calls_by n h') ≤ z.quota) (sym e) (omega arith))
               (λ ne. subst (λ (l : List StoreCall). puts l ≤ z.quota) (sym (calls_by-other m h c (λ e. ne (sym e)))) (f.records.within m));
@@ -213,3 +212,13 @@ module _ (z : StoreSize) where
               (λ k. with_draft me.0 (one k) (Both (lows k) new)),
         ),
       )
+
+  -- the same at a place that is the cell's
+  pub gets_at : (slots id : ℕ) (me : Me ℕ View) (a i : ℕ) (x : Held) → i ≡ cell_at a → a < 64 * z.slots → me.0.live ≡ true → me.0.held ≡ x ∷ []
+      → Allows (Kept z) slots id me i (λ n. n) (Gets a (step slots i 0 0 none) me)
+  gets_at slots id me a i x is inside live only = subst (λ (i : ℕ). Allows (Kept z) slots id me i (λ n. n) (Gets a (step slots i 0 0 none) me)) (sym is) (gets slots id me a x inside live only)
+
+  pub swaps_at : (slots id : ℕ) (me : Me ℕ View) (a i new : ℕ) (e : Entry) (x : Held) → i ≡ cell_at a → a < 64 * z.slots → IsEntry z e → me.0.live ≡ true → me.0.held ≡ x ∷ [] → x.draft ≡ Both (low_word e) (high_word e)
+      → new ≡ next_record z x + 1 → Allows (Kept z) slots id me i (λ _. new) (Puts a e (step slots i new 0 none) me)
+  swaps_at slots id me a i new e x is inside good live only full number =
+      subst (λ (i : ℕ). Allows (Kept z) slots id me i (λ _. new) (Puts a e (step slots i new 0 none) me)) (sym is) (swaps slots id me a new e x inside good live only full number)

@@ -1,5 +1,5 @@
 -- Seats are numbered, cut and joined, and learn the history so far.
-use Rattle.std.proofs.Common.{◌≡◌, ◌≢◌, ℕ, zero, suc, ◌+◌, ◌*◌, ◌%◌, ◌^◌, ◌<◌, ◌≤◌, ◌⊎◌, true, cond, eqb, List, [], ◌∷◌, ◌++◌, length, get_or, set, min, sym, refl, ap, ◌∙◌, subst, inl, inr, ⊎_elim, arith, eq-eqb, ne_eqb, length-set, get_or-set_other, get_or-set_same, lt_of_not-le}
+use Rattle.std.proofs.Common.{◌≡◌, ◌≢◌, ℕ, ◌+◌, ◌*◌, ◌%◌, ◌^◌, ◌<◌, ◌≤◌, true, cond, eqb, List, [], ◌∷◌, ◌++◌, length, get_or, set, min, sym, refl, ap, ◌∙◌, subst, inl, ⊎_elim, arith, eq-eqb, ne_eqb, length-set, get_or-set_other, get_or-set_same, lt_of_not-le}
 use Rattle.std.proofs.lemmas.List.{get_or-replicate, get_or_past, length-replicate}
 use Rattle.std.proofs.Math.Nat.{min-eq_left}
 use Rattle.std.specs.Prelude.{replicate, Some}
@@ -16,8 +16,8 @@ use Rattle.safe_table.specs.declared.history.StoreSize.{StoreSize}
 use Rattle.safe_table.specs.declared.view.Held.{Held}
 use Rattle.safe_table.specs.declared.view.View.{View}
 use Rattle.safe_table.specs.History.{calls_by, IsHistory}
-use Rattle.safe_table.specs.Rule.{records_at, IsSize, word_count, any_late, any_crowded, numbers_with, next_record, HeldFits, ViewFits, WordsFit, IsKept}
-use Rattle.safe_table.specs.inner.Views.{opened, opener, note, joined, spent, newcomer, numbered, dealer, dealt, learnt}
+use Rattle.safe_table.specs.Rule.{IsSize, word_count, any_late, any_crowded, numbers_with, next_record, HeldFits, ViewFits, WordsFit, IsKept}
+use Rattle.safe_table.specs.inner.Views.{opener, note, joined, spent, newcomer, numbered, dealer, dealt, learnt}
 use Rattle.safe_table.specs.inner.Plays.{Learning, Numbers}
 use Rattle.safe_table.proofs.ListLemmas.{prefix_refl, at_end, at_append, only_one, set_stays}
 use Rattle.safe_table.proofs.HistoryLemmas.{calls_by-none}
@@ -250,6 +250,7 @@ module _ (z : StoreSize) where
       no_calls : (b : List Call) (c : Call) (r : List Call) → [] ≡ b ++ c ∷ r → ⊥
       no_calls [] c r e = cc
       no_calls (x ∷ xs) c r e = cc
+
       no_store_calls : (b : List StoreCall) (c : StoreCall) (r : List StoreCall) → [] ≡ b ++ c ∷ r → ⊥
       no_store_calls [] c r e = cc
       no_store_calls (x ∷ xs) c r e = cc

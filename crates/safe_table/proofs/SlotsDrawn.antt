@@ -1,5 +1,5 @@
 -- Slots are drawn from one word.
-use Rattle.std.proofs.Common.{◌≡◌, ◌≢◌, ℕ, suc, ◌+◌, ◌-◌, ◌*◌, ◌%◌, ◌^◌, ◌<◌, ◌≤◌, ◌⊎◌, Bool, true, false, ◌||◌, cond, eqb, leb, List, [], ◌∷◌, ◌++◌, length, get_or, set, sym, refl, ap, ◌∙◌, subst, inl, inr, ⊎_elim, arith, length-set, get_or-set_other, get_or-set_same, lt_of_not-le, le-leb}
+use Rattle.std.proofs.Common.{◌≡◌, ◌≢◌, ℕ, ◌+◌, ◌*◌, ◌%◌, ◌^◌, ◌<◌, ◌≤◌, Bool, true, false, ◌||◌, cond, List, [], ◌∷◌, ◌++◌, length, get_or, set, sym, refl, ap, ◌∙◌, subst, inl, inr, ⊎_elim, arith, length-set, get_or-set_other, get_or-set_same, lt_of_not-le, le-leb}
 use Rattle.std.proofs.lemmas.Bool.{lt-leb}
 use Rattle.std.specs.Prelude.{Option, None, Some}
 use mathlib.Core.Logic.{dite}
@@ -8,16 +8,15 @@ use native.Mathlib.Decide.{ℕ_discrete, dec_le}
 use lib.ListN.{get_elem?}
 use Rattle.atomic_table.specs.Table.{State, Me, Act, Valid, step, keeps, stepped, carried_after, Allows}
 use Rattle.meaning.specs.declared.action.Action.TheVariants.{Alloc}
-use Rattle.meaning.specs.declared.action.Reply.{Reply}
 use Rattle.meaning.specs.declared.action.Reply.TheVariants.{Slot}
 use Rattle.atomic_table.proofs.Lists.{at_snoc}
-use Rattle.meaning.specs.Legal.{asked, slots_asked, slot_for}
+use Rattle.meaning.specs.Legal.{asked, slot_for}
 use Rattle.safe_table.specs.declared.history.StoreCall.{StoreCall}
 use Rattle.safe_table.specs.declared.history.StoreSize.{StoreSize}
 use Rattle.safe_table.specs.declared.view.Held.{Held}
 use Rattle.safe_table.specs.declared.view.View.{View}
 use Rattle.safe_table.specs.History.{call, calls, calls_by}
-use Rattle.safe_table.specs.Rule.{IsSize, is_late, any_late, numbers_with, next_slot, SlotsFit, WordsFit, IsKept}
+use Rattle.safe_table.specs.Rule.{IsSize, is_late, any_late, numbers_with, next_slot, SlotsFit, WordsFit}
 use Rattle.safe_table.specs.inner.Views.{called_view}
 use Rattle.safe_table.specs.inner.Plays.{Calls, SlotIs, Draws}
 use Rattle.safe_table.proofs.ListLemmas.{same_one}

@@ -1,5 +1,5 @@
 -- Thread numbers are drawn from one word.
-use Rattle.std.proofs.Common.{◌≡◌, ◌≢◌, ℕ, suc, ◌+◌, ◌-◌, ◌*◌, ◌%◌, ◌^◌, ◌<◌, ◌≤◌, ◌⊎◌, Bool, true, false, ◌||◌, cond, eqb, List, [], ◌∷◌, ◌++◌, length, get_or, set, min, sym, refl, ap, ◌∙◌, subst, ⊎_elim, arith, eq-eqb, ne_eqb, length-set, get_or-set_other, get_or-set_same, lt_of_not-le}
+use Rattle.std.proofs.Common.{◌≡◌, ◌≢◌, ℕ, ◌+◌, ◌*◌, ◌%◌, ◌^◌, ◌<◌, ◌≤◌, Bool, true, false, ◌||◌, cond, List, [], ◌∷◌, ◌++◌, length, get_or, set, min, sym, refl, ap, ◌∙◌, subst, ⊎_elim, arith, eq-eqb, ne_eqb, length-set, get_or-set_other, get_or-set_same, lt_of_not-le}
 use Rattle.std.proofs.Math.Nat.{min-eq_left, min-eq_right}
 use Rattle.std.specs.Prelude.{Option, None, Some}
 use mathlib.Core.Logic.{dite}
@@ -15,8 +15,8 @@ use Rattle.safe_table.specs.declared.history.StoreCall.{StoreCall}
 use Rattle.safe_table.specs.declared.history.StoreSize.{StoreSize}
 use Rattle.safe_table.specs.declared.view.Held.{Held}
 use Rattle.safe_table.specs.declared.view.View.{View}
-use Rattle.safe_table.specs.History.{call, answered, calls, calls_by}
-use Rattle.safe_table.specs.Rule.{IsSize, is_crowded, any_crowded, numbers_with, ThreadsFit, WordsFit, IsKept}
+use Rattle.safe_table.specs.History.{call, calls, calls_by}
+use Rattle.safe_table.specs.Rule.{IsSize, is_crowded, any_crowded, numbers_with, ThreadsFit, WordsFit}
 use Rattle.safe_table.specs.inner.Views.{called_view}
 use Rattle.safe_table.specs.inner.Plays.{Calls, ThreadIs, Forks}
 use Rattle.safe_table.proofs.ListLemmas.{same_one}

@@ -1,6 +1,5 @@
 -- What views know stays so under other seats' steps, and what a step that is a call makes of its own.
-use Rattle.std.proofs.Common.{◌≡◌, ◌≢◌, ℕ, ◌+◌, ◌*◌, ◌<◌, ◌≤◌, true, List, [], ◌∷◌, ◌++◌, length, get_or, set, sym, refl, ap, ◌∙◌, subst, arith, length-set, get_or-set_other}
-use Rattle.std.specs.Prelude.{Some}
+use Rattle.std.proofs.Common.{◌≡◌, ◌≢◌, ℕ, ◌+◌, ◌*◌, ◌<◌, ◌≤◌, true, List, [], ◌∷◌, ◌++◌, get_or, set, sym, refl, ap, ◌∙◌, subst, arith, length-set, get_or-set_other}
 use mathlib.Core.Option.{some}
 use mathlib.Core.List.{IsPrefix}
 use lib.ListN.{get_elem?}
@@ -18,7 +17,7 @@ use Rattle.safe_table.specs.History.{calls, IsNumbered, IsHistory, calls_by, put
 use Rattle.safe_table.specs.Rule.{records_at, low_at, high_at, IsMade, next_record, Drafted, HeldFits, ViewFits, WordsFit, IsKept}
 use Rattle.safe_table.specs.inner.Views.{with_draft, called_view}
 use Rattle.safe_table.specs.inner.Plays.{Calls}
-use Rattle.safe_table.proofs.ListLemmas.{prefix_refl, prefix_snoc, only_one, set_stays, one_place, place_within}
+use Rattle.safe_table.proofs.ListLemmas.{prefix_refl, prefix_snoc, only_one, set_stays, one_place}
 use Rattle.safe_table.proofs.HistoryLemmas.{history-snoc, calls_by-mine, calls_by-other}
 use Rattle.safe_table.proofs.WordsFit.{SameAbove, SameRecord, same_record, numbers_words, records_words, slots_words, threads_words}
 

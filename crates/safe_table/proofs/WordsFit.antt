@@ -1,5 +1,5 @@
 -- Each part of the rule on words stays, where its words stay and the history has one call more of another kind.
-use Rattle.std.proofs.Common.{◌≡◌, ◌≢◌, ℕ, suc, ◌+◌, ◌-◌, ◌*◌, ◌<◌, ◌≤◌, ◌⊎◌, Bool, true, false, ◌||◌, cond, List, [], ◌∷◌, ◌++◌, length, get_or, min, sym, refl, ap, ◌∙◌, subst, ⊎_elim, arith}
+use Rattle.std.proofs.Common.{◌≡◌, ℕ, ◌+◌, ◌*◌, ◌<◌, ◌≤◌, ◌⊎◌, Bool, true, false, ◌||◌, cond, List, [], ◌∷◌, ◌++◌, length, get_or, min, sym, refl, ap, ◌∙◌, subst, ⊎_elim, arith}
 use Rattle.std.specs.Prelude.{Option, None, Some}
 use mathlib.Core.Option.{some}
 use lib.ListN.{get_elem?}
@@ -8,9 +8,8 @@ use Rattle.meaning.specs.declared.value.Entry.{Entry}
 use Rattle.meaning.specs.Legal.{put_at, or_else, asked, ends, is_ended, is_new_thread, threads_made}
 use Rattle.safe_table.specs.declared.history.StoreCall.{StoreCall}
 use Rattle.safe_table.specs.declared.history.StoreSize.{StoreSize}
-use Rattle.safe_table.specs.Entries.{IsEntry}
 use Rattle.safe_table.specs.History.{answered, calls, last_entry, last_number, number_after, calls_by, put_weight, puts}
-use Rattle.safe_table.specs.Rule.{records_at, low_at, high_at, cell_at, end_at, number_word, slot_word, thread_word, word_count, IsMade, Known, entry_of, NumbersFit, CellsFit, RecordsFit, SlotsFit, ThreadsFit, EndsFit, WordsFit, is_late, any_late, is_crowded, any_crowded, numbers_with, next_slot}
+use Rattle.safe_table.specs.Rule.{records_at, low_at, high_at, cell_at, IsMade, Known, entry_of, NumbersFit, CellsFit, RecordsFit, SlotsFit, ThreadsFit, EndsFit, WordsFit, is_late, any_late, is_crowded, any_crowded, numbers_with, next_slot}
 use Rattle.safe_table.specs.Seat.{HasRecord}
 use Rattle.safe_table.proofs.ListLemmas.{not_both, place_within}
 use Rattle.safe_table.proofs.HistoryLemmas.{last_entry-snoc, number_behind-snoc, slots_asked-snoc, threads_made-snoc, is_ended-snoc, puts_by-grows, puts_by-same}

@@ -1,10 +1,12 @@
 //! Steps on the slot word, the thread word and the end words.
-ghost use Rattle.std.specs.Prelude.{◌≡◌, ◌<◌, ◌≤◌};
+ghost use Rattle.std.specs.Prelude.{◌≡◌, ◌^◌, ◌<◌, ◌≤◌, cond};
 ghost use Rattle.meaning.specs.declared.action.Action.TheVariants.{Alloc, Free, Look, Fork};
 ghost use Rattle.meaning.specs.declared.action.Reply.TheVariants.{Slot, Flag, Thread};
 ghost use Rattle.safe_table.specs.declared.view.Draft.TheVariants.{Blank};
 ghost use Rattle.safe_table.specs.Seat.{SeatCall, puts_left};
+ghost use Rattle.safe_table.specs.inner.Plays.{SlotIs, ThreadIs};
 
+use crate::history::StoreSize;
 use crate::place::{SLOT_WORD, THREAD_WORD, end_at};
 use crate::plays::{About, DrawPlay, EndPlay, ForkPlay, LookPlay};
 use crate::table::{SafeSeat, SafeTable};
@@ -12,6 +14,39 @@ use std::marker::Brand;
 
 /// The first slot of an object.
 const FIRST_SLOT: u64 = 1026;
+
+// What a seat adds to a word: nothing from when it was told that no more is left.
+fn added(none_left: bool, amount: u32) -> u64
+    ensures { result ≡ cond none_left 0 amount }
+{
+    if none_left { 0 } else { amount as u64 }
+}
+
+// What a seat is told that asks for `k` slots, at the slot word found.
+fn slot_found(size: StoreSize, late: bool, found: u64, k: u32) -> Option<u32>
+    requires { found < 2 ^ 32 }
+    ensures { SlotIs size late k found result }
+{
+    let first = FIRST_SLOT + found;
+    if late || first + k as u64 > size.slots as u64 {
+        None
+    } else {
+        Some(first as u32)
+    }
+}
+
+// What a seat is told that asks for a thread number, at the thread word found.
+fn thread_found(size: StoreSize, crowded: bool, found: u64) -> Option<u8>
+    requires { found < 2 ^ 32 }
+    ensures { ThreadIs size crowded found result }
+{
+    let next = 1 + found;
+    if crowded || next >= size.threads as u64 {
+        None
+    } else {
+        Some(next as u8)
+    }
+}
 
 impl SafeTable {
     // A seat that was told that there are too few slots adds nothing from then on.
@@ -23,17 +58,13 @@ impl SafeTable {
         ensures blank { seat.new.draft ≡ Blank }
         ensures left { puts_left seat.new.seat ≡ puts_left seat.old.seat }
     {
-        let add = if seat.late { 0 } else { k as u64 };
         let found = self
             .table
             .shared
-            .fetch_add::<DrawPlay<B>>(&mut seat.seat, SLOT_WORD, add);
-        if seat.late || FIRST_SLOT + found + k as u64 > self.size.slots as u64 {
-            seat.late = true;
-            None
-        } else {
-            Some((FIRST_SLOT + found) as u32)
-        }
+            .fetch_add::<DrawPlay<B>>(&mut seat.seat, SLOT_WORD, added(seat.late, k));
+        let slot = slot_found(self.size, seat.late, found, k);
+        seat.late = slot.is_none();
+        slot
     }
 
     /// The first of `k` slots behind all that were asked for, or none where they would pass the limit.
@@ -103,16 +134,12 @@ impl SafeTable {
         ensures blank { seat.new.draft ≡ Blank }
         ensures left { puts_left seat.new.seat ≡ puts_left seat.old.seat }
     {
-        let add = if seat.crowded { 0 } else { 1 };
         let found = self
             .table
             .shared
-            .fetch_add::<ForkPlay>(&mut seat.seat, THREAD_WORD, add);
-        if seat.crowded || 1 + found >= self.size.threads as u64 {
-            seat.crowded = true;
-            None
-        } else {
-            Some((1 + found) as u8)
-        }
+            .fetch_add::<ForkPlay>(&mut seat.seat, THREAD_WORD, added(seat.crowded, 1));
+        let thread = thread_found(self.size, seat.crowded, found);
+        seat.crowded = thread.is_none();
+        thread
     }
 }

@@ -52,9 +52,7 @@ impl SafeTable {
         ensures has { Gathered result seat }
     {
         let mut seat = seat.seat;
-        self.table
-            .shared
-            .load::<LearnPlay>(&mut seat, NUMBER_WORD);
+        self.table.shared.load::<LearnPlay>(&mut seat, NUMBER_WORD);
         Gathering { seat }
     }
 

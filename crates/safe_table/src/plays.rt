@@ -10,6 +10,7 @@ use std::marker::{Brand, PhantomData};
 /// What a step is about where its operands don't say: the address, the amount or the id, and the entry.
 pub(crate) trait About {
     ghost number: { ℕ };
+
     ghost entry: { Entry };
 }
 

@@ -1,5 +1,5 @@
 //! Steps on cells and records.
-ghost use Rattle.std.specs.Prelude.{◌≡◌, ℕ, ◌+◌, ◌*◌, ◌<◌, ◌≤◌};
+ghost use Rattle.std.specs.Prelude.{◌≡◌, ℕ, ◌+◌, ◌*◌, ◌^◌, ◌<◌, ◌≤◌};
 ghost use Rattle.meaning.specs.declared.value.Entry.{Entry};
 ghost use Rattle.meaning.specs.declared.action.Action.TheVariants.{Get, Put};
 ghost use Rattle.meaning.specs.declared.action.Reply.TheVariants.{Nothing, Found};
@@ -20,6 +20,7 @@ impl SafeTable {
         requires room { 0 < puts_left seat.now.seat }
         ensures number { result + 1 ≡ next_number seat.now.seat }
         ensures within { result < self.now.size.quota * self.now.size.threads }
+        ensures small { result < 2 ^ 32 }
     {
         let quota = self.size.quota;
         quota * seat.number as u64 + (quota - seat.left)
@@ -43,12 +44,15 @@ impl SafeTable {
         ensures { seat.new ≡ record { seat = seat.old.seat; draft = Both low word } }
     {
         let at = low_at(self.size, self.next_record(seat)) + 1;
-        self.table.shared.store::<HighPlay>(&mut seat.seat, at, word);
+        self.table
+            .shared
+            .store::<HighPlay>(&mut seat.seat, at, word);
     }
 
-    // The one step of a put: the number that the cell had.
-    fn swap_cell<B: About>(&self, seat: &mut SafeSeat, a: u32, put: u64) -> u64
+    // The one step of a put: the number that the cell had. The entry is for the proof alone.
+    fn swap_cell<B: About>(&self, seat: &mut SafeSeat, a: u32, _entry: &Entry, put: u64) -> u64
         requires about { B.number ≡ a }
+        requires entry_is { B.entry ≡ _entry.now }
         requires entry { IsEntry self.now.size B.entry }
         requires own { seat.old.seat.store ≡ self.now }
         requires inside { a < 64 * self.now.size.slots }
@@ -59,7 +63,10 @@ impl SafeTable {
         ensures blank { seat.new.draft ≡ Blank }
         ensures left { puts_left seat.new.seat + 1 ≡ puts_left seat.old.seat }
     {
-        let before = self.table.shared.swap::<PutPlay<B>>(&mut seat.seat, cell_at(a), put);
+        let before = self
+            .table
+            .shared
+            .swap::<PutPlay<B>>(&mut seat.seat, cell_at(a), put);
         seat.left -= 1;
         before
     }
@@ -79,7 +86,7 @@ impl SafeTable {
     {
         let _entry = *entry;
         let put = self.next_record(seat) + 1;
-        let before = self.swap_cell::<Brand>(seat, a, put);
+        let before = self.swap_cell::<Brand>(seat, a, entry, put);
         (put, before)
     }
 
@@ -91,7 +98,9 @@ impl SafeTable {
         ensures blank { seat.new.draft ≡ Blank }
         ensures left { puts_left seat.new.seat ≡ puts_left seat.old.seat }
     {
-        self.table.shared.load::<GetPlay<B>>(&mut seat.seat, cell_at(a))
+        self.table
+            .shared
+            .load::<GetPlay<B>>(&mut seat.seat, cell_at(a))
     }
 
     /// The number of an address's last put, 0 where there is none.

@@ -5,7 +5,6 @@ use mathlib.Core.List.{IsPrefix}
 use lib.ListN.{get_elem?}
 use Rattle.atomic_table.specs.Seated.{TableId}
 use Rattle.safe_table.specs.declared.history.StoreCall.{StoreCall}
-use Rattle.safe_table.specs.declared.view.Draft.TheVariants.{Blank}
 use Rattle.safe_table.specs.declared.view.Held.{Held}
 use Rattle.safe_table.specs.declared.view.View.{View}
 use Rattle.safe_table.specs.History.{calls_by, puts, IsHistory}

@@ -1,6 +1,5 @@
 -- Views: how they begin, are cut and joined, and what a step makes of one.
 use Rattle.std.specs.Prelude.{ℕ, true, false, List, [], ◌∷◌, ◌++◌, None, Some}
-use Rattle.atomic_table.specs.Seated.{TableId}
 use Rattle.safe_table.specs.declared.history.StoreCall.{StoreCall}
 use Rattle.safe_table.specs.declared.history.StoreSize.{StoreSize}
 use Rattle.safe_table.specs.declared.view.Draft.{Draft}
