@@ -1,6 +1,8 @@
 -- What a seat of a shared store has seen and done, and what each call makes of it.
 use Rattle.std.specs.Prelude.{◌≡◌, ℕ, ◌+◌, ◌-◌, ◌*◌, ◌<◌, List, [], ◌∷◌, ◌++◌, Option, None, Some, slice_get}
 use mathlib.Core.List.{IsPrefix}
+use mathlib.Core.Option.{some}
+use lib.ListN.{get_elem?}
 use Rattle.atomic_table.specs.Seated.{TableId}
 use Rattle.meaning.specs.declared.value.Entry.{Entry}
 use Rattle.meaning.specs.declared.action.Action.{Action}
@@ -10,6 +12,7 @@ use Rattle.meaning.specs.declared.action.Reply.TheVariants.{Found}
 use Rattle.safe_table.specs.declared.history.StoreCall.{StoreCall}
 use Rattle.safe_table.specs.declared.history.StoreSize.{StoreSize}
 use Rattle.safe_table.specs.declared.view.Draft.{Draft}
+use Rattle.safe_table.specs.declared.view.Held.{Held}
 use Rattle.safe_table.specs.Entries.{IsEntry}
 use Rattle.safe_table.specs.History.{call, calls_by, puts, IsHistory}
 use Rattle.safe_table.specs.Rule.{entry_of}
@@ -96,3 +99,23 @@ pub record Drafting : Type 0 where
 pub record Opening : Type 0 where
   pub store : StoreName
   pub given : ℕ
+
+-- seats that are being gathered: their store, the history as far as it is seen, and the numbers held
+pub record GatherState : Type 0 where
+  pub store : StoreName
+  pub seen : List StoreCall
+  pub held : List Held
+
+-- a seat as it is held after it was taken in
+abbrev pub held_by : Drafting → Held
+held_by s = record { number = s.seat.number; mine = s.seat.mine; draft = s.draft }
+
+-- the seat is among those gathered
+abbrev pub Gathered : GatherState → Drafting → Type 0
+Gathered g s = IsPrefix s.seat.seen g.seen × ((k : ℕ) × (get_elem? g.held k ≡ some (held_by s)))
+
+-- what is seen is a legal history with just the calls of the numbers held, beside those of numbers that are not held
+pub record IsGathering (g : GatherState) : Type 0 where
+  pub legal : IsHistory g.store.size g.seen
+  pub mine : (k : ℕ) (x : Held) → get_elem? g.held k ≡ some x → calls_by x.number g.seen ≡ x.mine
+  pub named : (k : ℕ) (c : StoreCall) → get_elem? g.seen k ≡ some c → c.by < g.store.size.threads

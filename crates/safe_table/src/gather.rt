@@ -4,8 +4,7 @@ ghost use mathlib.Core.List.{IsPrefix};
 ghost use mathlib.Core.Option.{some};
 ghost use lib.ListN.{get_elem?};
 ghost use Rattle.safe_table.specs.declared.view.Held.{Held};
-ghost use Rattle.safe_table.specs.Seat.{Meets, puts_left};
-ghost use Rattle.safe_table.specs.inner.Seats.{Gathered};
+ghost use Rattle.safe_table.specs.Seat.{Gathered, IsGathering, Meets};
 
 use crate::place::NUMBER_WORD;
 use crate::plays::{LearnPlay, TakeIn, Tell};
@@ -21,13 +20,14 @@ pub struct Gathering {
 }
 
 impl Model for Gathering {
-    ghost use Rattle.safe_table.specs.inner.Seats.{GatherState, gather_state, IsGathered};
+    ghost use Rattle.safe_table.specs.Seat.{GatherState};
+    ghost use Rattle.safe_table.specs.inner.Seats.{gather_state, IsGathered};
 
     ghost Value = { GatherState };
 
     ghost view = { λ g. gather_state g.seat.table_id g.seat.me };
 
-    ghost invariant = { λ g. IsGathered g.seat.me };
+    ghost invariant = { λ g. IsGathered g.seat.table_id g.seat.me };
 }
 
 impl SafeTable {
@@ -49,6 +49,7 @@ impl SafeTable {
     pub fn gather_first(&self, seat: SafeSeat) -> Gathering
         requires { seat.seat.store ≡ self.now }
         ensures store { result.store ≡ self.now }
+        ensures whole { IsGathering result }
         ensures has { Gathered result seat }
     {
         let mut seat = seat.seat;
@@ -61,6 +62,7 @@ impl SafeTable {
         requires own { all.store ≡ self.now }
         requires others { seat.seat.store ≡ self.now }
         ensures store { result.store ≡ self.now }
+        ensures whole { IsGathering result }
         ensures has { Gathered result seat }
         ensures seen { IsPrefix all.seen result.seen }
         ensures held { (k : ℕ) (x : Held) → get_elem? all.held k ≡ some x → get_elem? result.held k ≡ some x }

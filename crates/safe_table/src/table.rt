@@ -81,7 +81,8 @@ fn zeros(alloc: Global, count: usize) -> Result<Vec<u64>, AllocError>
 impl SafeTable {
     /// Its size.
     pub fn size(&self) -> StoreSize
-        ensures { result ≡ self.now.size }
+        ensures is { result ≡ self.now.size }
+        ensures fits { IsSize result }
     {
         self.size
     }

@@ -69,7 +69,7 @@ fn deal(alloc: Global, table: &SafeTable, opener: Opener, threads: u8) -> Result
 {
     let mut opener = opener;
     let mut seats = Vec::new(alloc);
-    for _ in 0..threads {
+    for _number in 0..threads {
         let seat = table.deal(&mut opener);
         seats.push(ThreadSeat { seat })?;
     }
@@ -155,7 +155,7 @@ impl Shared {
         }
         let low = self.table.read_low(&mut seat.seat, put);
         let high = self.table.read_high(&mut seat.seat, put);
-        let entry = Some(entry_of(&self.table.size(), low, high));
+        let entry = Some(entry_of(self.table.size(), low, high));
         Read { entry, put }
     }
 
@@ -170,8 +170,8 @@ impl Shared {
         ensures left { puts_left seat.new + 1 ≡ puts_left seat.old }
     {
         let size = self.table.size();
-        let low = low_word(&size, &e);
-        let high = high_word(&size, &e);
+        let low = low_word(size, &e);
+        let high = high_word(size, &e);
         self.table.write_low(&mut seat.seat, low);
         self.table.write_high(&mut seat.seat, low, high);
         let (put, before) = self.table.put(&mut seat.seat, a, &e);

@@ -9,7 +9,7 @@ use Rattle.safe_table.specs.declared.view.Held.{Held}
 use Rattle.safe_table.specs.declared.view.View.{View}
 use Rattle.safe_table.specs.History.{calls_by, puts, IsHistory}
 use Rattle.safe_table.specs.Rule.{any_late, any_crowded}
-use Rattle.safe_table.specs.Seat.{StoreName, SeatState, Drafting}
+use Rattle.safe_table.specs.Seat.{StoreName, SeatState, Drafting, GatherState, IsGathering}
 use Rattle.safe_table.specs.inner.Plays.{Sat}
 use Rattle.safe_table.specs.inner.Views.{mine_in, draft_in}
 
@@ -33,26 +33,11 @@ pub record IsWhole (n left : ℕ) (late crowded : Bool) (m : Sat) : Type 0 where
   pub late_is : any_late (own m.0) ≡ late
   pub crowded_is : any_crowded (own m.0) ≡ crowded
 
--- seats that are being gathered: their store, the history as far as it is seen, and the numbers held
-pub record GatherState : Type 0 where
-  pub store : StoreName
-  pub seen : List StoreCall
-  pub held : List Held
-
 abbrev pub gather_state : TableId → Sat → GatherState
 gather_state id m = record { store = record { table_id = id; size = m.0.size }; seen = m.0.seen; held = m.0.held }
 
--- a seat as it is held after it was taken in
-abbrev pub held_by : Drafting → Held
-held_by s = record { number = s.seat.number; mine = s.seat.mine; draft = s.draft }
-
-pub record IsGathered (m : Sat) : Type 0 where
+-- what holds of a seat that has taken in others
+pub record IsGathered (id : TableId) (m : Sat) : Type 0 where
   pub none_out : m.1 ≡ []
   pub live : m.0.live ≡ true
-  pub legal : IsHistory m.0.size m.0.seen
-  pub mine : (k : ℕ) (x : Held) → get_elem? m.0.held k ≡ some x → calls_by x.number m.0.seen ≡ x.mine
-  pub named : (k : ℕ) (c : StoreCall) → get_elem? m.0.seen k ≡ some c → c.by < m.0.size.threads
-
--- the seat is among those gathered
-abbrev pub Gathered : GatherState → Drafting → Type 0
-Gathered g s = IsPrefix s.seat.seen g.seen × ((k : ℕ) × (get_elem? g.held k ≡ some (held_by s)))
+  pub whole : IsGathering (gather_state id m)

@@ -6,8 +6,8 @@ use Rattle.safe_table.specs.declared.history.StoreCall.{StoreCall}
 use Rattle.safe_table.specs.declared.view.Held.{Held}
 use Rattle.safe_table.specs.declared.view.View.{View}
 use Rattle.atomic_table.proofs.Lists.{at_longer}
-use Rattle.safe_table.specs.Seat.{StoreName, Drafting}
-use Rattle.safe_table.specs.inner.Seats.{GatherState, held_by, drafting}
+use Rattle.safe_table.specs.Seat.{StoreName, Drafting, GatherState, held_by}
+use Rattle.safe_table.specs.inner.Seats.{drafting}
 use Rattle.safe_table.proofs.Seats.{joins, learns}
 use Rattle.safe_table.proofs.Whole.{belongs}
 use Rattle.safe_table.proofs.table.SafeTable.gather_next.Goals as goal
