@@ -1,1 +1,2 @@
-mod EntryWords
+mod Entries
+mod Seats

@@ -60,7 +60,12 @@ pub struct Written {
 }
 
 // Gives each number to a seat of its own.
-fn deal(alloc: Global, table: &SafeTable, opener: Opener, threads: u8) -> Result<Vec<ThreadSeat>, AllocError>
+fn deal(
+    alloc: Global,
+    table: &SafeTable,
+    opener: Opener,
+    threads: u8,
+) -> Result<Vec<ThreadSeat>, AllocError>
     requires own { opener.store ≡ table.now }
     requires none { opener.given ≡ 0 }
     requires all { threads ≡ table.now.size.threads }
