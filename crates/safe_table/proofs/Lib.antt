@@ -1,0 +1,11 @@
+mod HistoryLemmas
+mod IdsEnded
+mod ListLemmas
+mod NumbersWith
+mod PutsAndGets
+mod Seats
+mod SlotsDrawn
+mod ThreadsForked
+mod ViewsFit
+mod Whole
+mod WordsFit

@@ -1,0 +1,22 @@
+use Rattle.std.proofs.Common.{◌≡◌, ◌+◌, ◌*◌, ◌<◌, sym, ap, ◌∙◌, subst, arith}
+use Rattle.safe_table.specs.Seat.{Drafting, StoreName}
+use Rattle.safe_table.specs.Rule.{high_at}
+use Rattle.safe_table.proofs.PutsAndGets.{writes_high}
+use Rattle.safe_table.proofs.Whole.{held_of, belongs, next_place}
+use Rattle.safe_table.proofs.table.SafeTable.write_high.Goals as goal
+
+pub store-requires : goal.store-requires
+store-requires c =
+    let whole = c.seat.invariant in
+    let m = c.seat.inside.seat.me in
+    let b = belongs m c.seat.view_is c.requires.own c.self.view_is c.self.invariant.0 in
+    let within : c.next_record.result < c.self.inside.size.quota * c.self.inside.size.threads =
+    subst (λ (s : StoreName). c.next_record.result < s.size.quota * s.size.threads) (sym c.self.view_is) c.next_record.ensures.within in
+    let record_is = next_place {p = c.next_record.result} m c.self.inside.table.shared.key c.seat.view_is b.size_is c.next_record.ensures.number in
+    let long = c.self.invariant.1 in
+    let place = c.low_at-at.ensures in (
+      b.ids,
+      omega arith,
+      writes_high _ _ _ _ _ _ _ (held_of c.seat.inside.number m.0) whole.live whole.held (ap (λ (d : Drafting). d.draft) c.seat.view_is ∙ c.requires.half)
+          ((let up : c.low_at-at.result + 1 ≡ high_at c.self.inside.size c.next_record.result = omega arith in up) ∙ (λ i. high_at (sym c.self.invariant.0 i) (record_is i))),
+    )

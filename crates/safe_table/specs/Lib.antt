@@ -1,0 +1,5 @@
+pub mod Entries
+pub mod History
+pub mod Rule
+pub mod Seat
+pub mod inner
