@@ -1,4 +1,8 @@
-use super::*;
+//! What the adapters give and take, and whole texts, worked by hand.
+use lv_base::{
+    MemSink, MemSource, ReadEnd, Sink, Source, StdSink, StdSource, Trouble, VecSink, VecSource,
+    WriteEnd, push_number, read_all, write_all,
+};
 use std::alloc::{AllocError, Global};
 use std::io;
 use std::io::{Error, Read};
