@@ -1,7 +1,5 @@
+pub mod FailureLemmas
+pub mod LegalOutcome
+pub mod OneOutcome
+pub mod OutcomeLemmas
 pub mod front_laws
-pub mod LinesCut
-pub mod LinesNumber
-pub mod LinesRead
-pub mod LinesSaid
-pub mod Outcomes
-pub mod Unique

@@ -1,10 +1,14 @@
--- What the top call promises, where its source and its sink tell their bytes.
-use Rattle.std.specs.Prelude.{ℕ, List, Option, Some, None, Bool}
+-- What the top call promises of its words, its source and its sink.
+use Rattle.std.specs.Prelude.{◌≡◌, ℕ, List, length, Option, Some, None}
 use Rattle.std.specs.Io.KnownBytes.{Appends}
+use Rattle.lv_base.specs.Counts.{raised_by}
 use Rattle.lv_base.specs.Whole.{AppendsFront}
+use Rattle.meaning.specs.Legal.{LegalHistory}
+use Rattle.meaning.specs.small.Trace.{calls_of, trace_of}
+use Rattle.meaning.specs.small.Transfers.{GoodTransfers}
 use Rattle.levee_top.specs.declared.status.Status.{Status}
 use Rattle.levee_top.specs.declared.status.Status.TheVariants.{Done, Violation, Refused, ReadFault, WriteFault, Memory}
-use Rattle.levee_top.specs.Outcome.{RunSays, OutcomeBy, JobOutcome, Outcome}
+use Rattle.levee_top.specs.Outcome.{Outcome, usage, refused, ran, run_threads, steps_of}
 
 -- no fault and no want of memory was answered
 abbrev pub IsWhole : Status → Type 0
@@ -13,32 +17,50 @@ IsWhole WriteFault = ⊥
 IsWhole Memory = ⊥
 IsWhole _ = Unit {0}
 
--- the job was accepted
-abbrev pub IsAccepted : Status → Type 0
-IsAccepted Done = Unit {0}
-IsAccepted Violation = Unit {0}
-IsAccepted _ = ⊥
+-- the input was accepted
+abbrev pub IsAcceptance : Status → Type 0
+IsAcceptance Done = Unit {0}
+IsAcceptance Violation = Unit {0}
+IsAcceptance _ = ⊥
 
--- the outcome of the words and the told input is this status, and its text was appended
-abbrev pub Writes : (Bool → RunSays) → List (List ℕ) → Option (List ℕ) → Option (List ℕ) → Option (List ℕ) → Status → Type 0
-Writes Run words None held new status = Unit {0}
-Writes Run words (Some input) held new status =
-    (text : List ℕ) × OutcomeBy Run words input status text × Appends held new text
+-- a run has this many slots
+abbrev pub run_slots : ℕ
+run_slots = 1048576
 
--- a front of the text of the outcome of the words and the told input was appended
-abbrev pub WritesFront : List (List ℕ) → Option (List ℕ) → Option (List ℕ) → Option (List ℕ) → Type 0
-WritesFront words None held new = Unit {0}
-WritesFront words (Some input) held new =
-    (status : Status) × (text : List ℕ) × Outcome words input status text × AppendsFront held new text
+-- a run that is an outcome is one legal history, and its transfers are good
+abbrev pub IsLegal : {words : List (List ℕ)} {input : List ℕ} {status : Status} {text : List ℕ} → Outcome words input status text → Type 0
+IsLegal (usage none line) = Unit {0}
+IsLegal (refused command why words input line) = Unit {0}
+IsLegal (ran full program events words input run) =
+    LegalHistory run_slots run_threads (calls_of (trace_of (steps_of program events)))
+    × GoodTransfers program (steps_of program events)
 
--- the status and the text that a told input gives
-abbrev pub GivenJob : RunSays → Option (List ℕ) → Status → List ℕ → Type 0
-GivenJob Run None status text = Unit {0}
-GivenJob Run (Some input) status text = JobOutcome Run input status text
+-- the bytes are those that the source tells, where it tells them
+abbrev pub IsTold : Option (List ℕ) → List ℕ → Type 0
+IsTold None input = Unit {0}
+IsTold (Some told) input = told ≡ input
 
--- the statuses that a job can have
-abbrev pub IsJobStatus : Status → Type 0
-IsJobStatus Done = Unit {0}
-IsJobStatus Violation = Unit {0}
-IsJobStatus Refused = Unit {0}
-IsJobStatus _ = ⊥
+-- The input of a call that answered a status: what the source tells, and where it was accepted as many bytes as were read.
+pub record IsInput (told : Option (List ℕ)) (before after : ℕ) (status : Status) (input : List ℕ) : Type 0 where
+  pub told_is : IsTold told input
+  pub counted : IsAcceptance status → after ≡ raised_by (length input) before
+
+-- the status and the text are those of the outcome of the words and the input that was read
+pub record Gives (words : List (List ℕ)) (told : Option (List ℕ)) (before after : ℕ) (status : Status) (text : List ℕ) : Type 0 where
+  pub input : List ℕ
+  pub input_is : IsInput told before after status input
+  pub outcome : Outcome words input status text
+
+-- such a text was appended, and a run that it is of is legal
+pub record Writes (words : List (List ℕ)) (told : Option (List ℕ)) (before after : ℕ) (held new : Option (List ℕ)) (status : Status) : Type 0 where
+  pub text : List ℕ
+  pub gives : Gives words told before after status text
+  pub legal : IsLegal gives.outcome
+  pub appended : Appends held new text
+
+-- a front of such a text was appended
+pub record WritesFront (words : List (List ℕ)) (told : Option (List ℕ)) (before after : ℕ) (held new : Option (List ℕ)) : Type 0 where
+  pub status : Status
+  pub text : List ℕ
+  pub gives : Gives words told before after status text
+  pub appended : AppendsFront held new text

@@ -1,16 +1,28 @@
-//! The words of a command.
+//! The commands and their words.
 ghost use Rattle.std.specs.Prelude.{◌≡◌, ◌↔◌, IsTrue, map, string_bytes, MatchOption};
-ghost use Rattle.levee_top.specs.Outcome.{command_words, IsNoCommand};
+ghost use Rattle.levee_top.specs.Command.{IsCommand, IsNoCommand};
 
-/// Whether the words are those of a run in full or, at `Some(false)`, in brief; `None` exactly where they
-/// are neither.
-pub fn command(words: &[String]) -> Option<bool>
-    ensures { MatchOption result (IsNoCommand (map string_bytes words.now)) (λ full. map string_bytes words.now ≡ command_words full) }
-{
-    match words {
-        [word] if is_word(word, "run") => Some(false),
-        [word, flag] if is_word(word, "run") && is_word(flag, "--full") => Some(true),
-        _ => None,
+/// What the words ask for.
+#[derive(Clone, Copy, Debug, PartialEq, Eq)]
+pub enum Command {
+    /// `run`: the run of a job, with its text in full or in brief.
+    Run { full: bool },
+}
+
+impl Command {
+    /// The command that the words are; none exactly where they are no command.
+    pub fn from_words(words: &[String]) -> Option<Command>
+        ensures { MatchOption result
+            (IsNoCommand (map string_bytes words.now))
+            (IsCommand (map string_bytes words.now)) }
+    {
+        match words {
+            [word] if is_word(word, "run") => Some(Command::Run { full: false }),
+            [word, flag] if is_word(word, "run") && is_word(flag, "--full") => {
+                Some(Command::Run { full: true })
+            }
+            _ => None,
+        }
     }
 }
 

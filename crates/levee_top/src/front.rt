@@ -16,7 +16,7 @@ ghost use Rattle.meaning.specs.small.Program.{IsValid};
 ghost use Rattle.meaning.specs.declared.small.program.Program.{Program};
 ghost use Rattle.levee_top.specs.Source.{name_of, IsName};
 ghost use Rattle.levee_top.specs.Elaborate.{IsProgramOf};
-ghost use Rattle.levee_top.specs.Reading.{GivesBy};
+ghost use Rattle.levee_top.specs.inner.Reading.{GivesBy};
 
 use c_types::Name;
 use meaning::small::Program;

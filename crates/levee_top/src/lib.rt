@@ -3,15 +3,15 @@
 
 mod answer;
 mod command;
+mod failure;
 mod front;
-mod job;
-mod script;
+mod refusal;
 mod status;
-mod text;
+mod theorems;
 mod top;
 
+pub use command::Command;
+pub use refusal::Refusal;
 pub use status::Status;
+pub use theorems::{outcomes_are_legal, outcomes_are_unique};
 pub use top::levee;
-
-#[cfg(test)]
-mod tests;

@@ -1,1 +1,2 @@
-pub mod Told
+pub mod CountsLemmas
+pub mod WholeLemmas

@@ -1,12 +1,16 @@
 -- What a source and a sink in memory show: their bytes, how they are set up, and their counts.
 use Rattle.std.specs.Prelude.{ℕ, ◌-◌, List, vec_len}
-use Rattle.lv_base.specs.Vector.{vec_source_left}
+use Rattle.lv_base.specs.Vector.{vec_source_left, vec_source_read}
 use Rattle.lv_base.specs.declared.memory.MemSource.{MemSource}
 use Rattle.lv_base.specs.declared.memory.MemSink.{MemSink}
 
 -- the bytes that the source has left
 abbrev pub mem_source_left : MemSource → List ℕ
 mem_source_left source = vec_source_left source.bytes
+
+-- how many bytes were read
+abbrev pub mem_source_read : MemSource → ℕ
+mem_source_read source = vec_source_read source.bytes
 
 -- how many bytes a call reads at most
 abbrev pub mem_source_piece : MemSource → ℕ

@@ -11,6 +11,10 @@ std_source_inner source = source.inner
 abbrev pub std_source_faults : {R : Type 0} → StdSource R → ℕ
 std_source_faults source = source.faults
 
+-- how many bytes were read
+abbrev pub std_source_read : {R : Type 0} → StdSource R → ℕ
+std_source_read source = source.taken
+
 -- the writer
 abbrev pub std_sink_inner : {W : Type 0} → StdSink W → W
 std_sink_inner sink = sink.inner

@@ -1,14 +1,24 @@
--- What reading to the end and writing a whole piece do to the bytes that are told.
-use Rattle.std.specs.Prelude.{ℕ, ◌<◌, ◌≤◌, List, length, take, Option}
+-- What reading to the end and writing a whole piece do: to the bytes, where they are told, and to the count of bytes.
+use Rattle.std.specs.Prelude.{◌≡◌, ℕ, ◌<◌, ◌≤◌, List, length, take, Option}
 use Rattle.std.specs.Io.KnownBytes.{Appends, Consumes}
+use Rattle.lv_base.specs.Counts.{raised_by}
 
--- some front of the bytes that are left was taken
-abbrev pub ConsumesFront : Option (List ℕ) → Option (List ℕ) → Type 0
-ConsumesFront old new = (front : List ℕ) × Consumes old new front
+-- these bytes were taken from the front of what was left, and each of them was counted
+pub record Takes (bytes : List ℕ) (old new : Option (List ℕ)) (before after : ℕ) : Type 0 where
+  pub taken : Consumes old new bytes
+  pub counted : after ≡ raised_by (length bytes) before
 
--- more than limit bytes came, and all that came was taken
-abbrev pub ConsumesAbove : ℕ → Option (List ℕ) → Option (List ℕ) → Type 0
-ConsumesAbove limit old new = (front : List ℕ) × (limit < length front) × Consumes old new front
+-- at most limit bytes were taken
+pub record TakesWithin (limit : ℕ) (old new : Option (List ℕ)) (before after : ℕ) : Type 0 where
+  pub bytes : List ℕ
+  pub few : length bytes ≤ limit
+  pub takes : Takes bytes old new before after
+
+-- more than limit bytes were taken
+pub record TakesAbove (limit : ℕ) (old new : Option (List ℕ)) (before after : ℕ) : Type 0 where
+  pub bytes : List ℕ
+  pub many : limit < length bytes
+  pub takes : Takes bytes old new before after
 
 -- some front of the piece was appended
 abbrev pub AppendsFront : Option (List ℕ) → Option (List ℕ) → List ℕ → Type 0

@@ -1,9 +1,10 @@
+//! Counts that stay at the greatest `u64`.
 ghost use Rattle.std.specs.Prelude.{◌≡◌};
-ghost use Rattle.lv_base.specs.Faults.{one_more};
+ghost use Rattle.lv_base.specs.Counts.{raised_by};
 
-/// One more, or the same at the greatest `u64`.
-pub(crate) fn raised(count: u64) -> u64
-    ensures { result ≡ one_more count }
+/// `by` more, or the greatest `u64`.
+pub(crate) fn raised(count: u64, by: u64) -> u64
+    ensures { result ≡ raised_by by count }
 {
-    count.saturating_add(1)
+    count.saturating_add(by)
 }

@@ -1,5 +1,6 @@
-//! Sources and sinks of bytes: what a reader above knows of them is the bytes that they tell and a
-//! count of their faults, so that "a fault is answered only where one was counted" can be proved.
+//! Sources and sinks of bytes: what a reader above knows of them is the bytes that they tell, a count of
+//! their faults and a count of the bytes that were read, so that "a fault is answered only where one was
+//! counted" and "too long only where too much came" can be proved.
 #![tactic(auto)]
 
 mod count;
@@ -16,6 +17,3 @@ pub use sink::{Sink, WriteEnd, write_all};
 pub use source::{ReadEnd, Source, Trouble, read_all};
 pub use standard::{StdSink, StdSource};
 pub use vector::{VecSink, VecSource};
-
-#[cfg(test)]
-mod tests;

@@ -1,6 +1,7 @@
+//! A source and a sink in memory that work in small pieces and fail where they are told to.
 ghost use Rattle.std.specs.Prelude.{◌≡◌, ◌↔◌, ◌⊎◌, ◌+◌, ◌<◌, ◌≤◌, [], length, min, vec_len, vec_capacity, Contains, Some, IfOk, OnOk, OnErr, IsErrOf, IsTrue};
 ghost use Rattle.std.specs.Io.KnownBytes.{ReadConsumes, WriteAppends};
-ghost use Rattle.lv_base.specs.Faults.{Rose, one_more};
+ghost use Rattle.lv_base.specs.Counts.{Rose, one_more, CountsRead};
 
 use super::count::raised;
 use super::sink::Sink;
@@ -20,13 +21,14 @@ pub struct MemSource {
 }
 
 impl MemSource {
-    ghost use Rattle.lv_base.specs.Memory.{mem_source_left, mem_source_piece, mem_source_fails, mem_source_calls, mem_source_faults};
+    ghost use Rattle.lv_base.specs.Memory.{mem_source_left, mem_source_read, mem_source_piece, mem_source_fails, mem_source_calls, mem_source_faults};
 
     /// A source of all of `bytes`, at most `piece` in each call. The calls whose numbers, from 1,
     /// stand in `fails` answer `Failed`.
     pub fn new(bytes: Vec<u8>, piece: usize, fails: Vec<u64>) -> MemSource
         requires { 0 < piece }
         ensures left { mem_source_left result ≡ bytes.items }
+        ensures read { mem_source_read result ≡ 0 }
         ensures piece { mem_source_piece result ≡ piece }
         ensures fails { mem_source_fails result ≡ fails.items }
         ensures calls { mem_source_calls result ≡ 0 }
@@ -43,11 +45,13 @@ impl MemSource {
 }
 
 impl Source for MemSource {
-    ghost use Rattle.lv_base.specs.Memory.{mem_source_left, mem_source_piece, mem_source_fails, mem_source_calls, mem_source_faults};
+    ghost use Rattle.lv_base.specs.Memory.{mem_source_left, mem_source_read, mem_source_piece, mem_source_fails, mem_source_calls, mem_source_faults};
 
     ghost left = { λ s. Some (mem_source_left s) };
 
     ghost faults = { mem_source_faults };
+
+    ghost bytes_read = { mem_source_read };
 
     /// Reads as many bytes as the piece, `buf` and what is left allow.
     ///
@@ -58,6 +62,7 @@ impl Source for MemSource {
     fn read(&mut self, buf: &mut [u8]) -> Result<usize, Trouble>
         ensures bound { IfOk result (λ n. n ≤ length buf.new) }
         ensures bytes { ReadConsumes (Some (mem_source_left self.old)) (Some (mem_source_left self.new)) result buf.new }
+        ensures bytes_counted { CountsRead (mem_source_read self.old) (mem_source_read self.new) result }
         ensures failed { IsErrOf result Trouble.Failed → Rose (mem_source_faults self.old) (mem_source_faults self.new) }
         ensures counted { mem_source_faults self.old ≤ mem_source_faults self.new }
 
@@ -70,9 +75,9 @@ impl Source for MemSource {
         ensures same_piece { mem_source_piece self.new ≡ mem_source_piece self.old }
         ensures same_fails { mem_source_fails self.new ≡ mem_source_fails self.old }
     {
-        self.calls = raised(self.calls);
+        self.calls = raised(self.calls, 1);
         if self.fails.contains(&self.calls) {
-            self.faults = raised(self.faults);
+            self.faults = raised(self.faults, 1);
             return Err(Trouble::Failed);
         }
         let most = buf.len().min(self.piece);
@@ -175,9 +180,9 @@ impl Sink for MemSink {
         ensures same_piece { mem_sink_piece self.new ≡ mem_sink_piece self.old }
         ensures same_fails { mem_sink_fails self.new ≡ mem_sink_fails self.old }
     {
-        self.calls = raised(self.calls);
+        self.calls = raised(self.calls, 1);
         if self.refuses(bytes) {
-            self.faults = raised(self.faults);
+            self.faults = raised(self.faults, 1);
             return Err(Trouble::Failed);
         }
         let room = self.room - self.held.len();

@@ -1,6 +1,7 @@
+//! Where bytes go, and how a whole piece is written.
 ghost use Rattle.std.specs.Prelude.{ℕ, ◌<◌, ◌≤◌, List, Option, length, IfOk, OnOk, OnErr, IsErrOf};
 ghost use Rattle.std.specs.Io.KnownBytes.{Appends, WriteAppends};
-ghost use Rattle.lv_base.specs.Faults.{Rose};
+ghost use Rattle.lv_base.specs.Counts.{Rose};
 ghost use Rattle.lv_base.specs.Whole.{AppendsFront};
 
 use super::source::Trouble;

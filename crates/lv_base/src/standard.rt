@@ -1,6 +1,7 @@
+//! A source and a sink over readers and writers of the standard library, which tell no content.
 ghost use Rattle.std.specs.Prelude.{◌≡◌, ◌<◌, ◌≤◌, length, None, Err, IfOk, OnOk, OnErr, IsErrOf};
 ghost use Rattle.std.specs.Io.KnownBytes.{ReadConsumes, WriteAppends};
-ghost use Rattle.lv_base.specs.Faults.{Rose, one_more};
+ghost use Rattle.lv_base.specs.Counts.{Rose, one_more, CountsRead};
 
 use super::count::raised;
 use super::sink::Sink;
@@ -12,26 +13,34 @@ use std::io::{Read, Write};
 pub struct StdSource<R> {
     inner: R,
     faults: u64,
+    taken: u64,
 }
 
 impl<R: Read> StdSource<R> {
-    ghost use Rattle.lv_base.specs.Standard.{std_source_inner, std_source_faults};
+    ghost use Rattle.lv_base.specs.Standard.{std_source_inner, std_source_faults, std_source_read};
 
     /// A source of what `inner` reads.
     pub fn new(inner: R) -> StdSource<R>
         ensures inner { std_source_inner result ≡ inner }
         ensures faults { std_source_faults result ≡ 0 }
+        ensures read { std_source_read result ≡ 0 }
     {
-        StdSource { inner, faults: 0 }
+        StdSource {
+            inner,
+            faults: 0,
+            taken: 0,
+        }
     }
 }
 
 impl<R: Read> Source for StdSource<R> {
-    ghost use Rattle.lv_base.specs.Standard.{std_source_inner, std_source_faults};
+    ghost use Rattle.lv_base.specs.Standard.{std_source_inner, std_source_faults, std_source_read};
 
     ghost left = { λ _. None };
 
     ghost faults = { std_source_faults };
+
+    ghost bytes_read = { std_source_read };
 
     /// Reads what one read of the inner reader gives.
     ///
@@ -41,6 +50,7 @@ impl<R: Read> Source for StdSource<R> {
     /// at its greatest value.
     fn read(&mut self, buf: &mut [u8]) -> Result<usize, Trouble>
         ensures bound { IfOk result (λ n. n ≤ length buf.new) }
+        ensures bytes_counted { CountsRead (std_source_read self.old) (std_source_read self.new) result }
         ensures failed { IsErrOf result Trouble.Failed → Rose (std_source_faults self.old) (std_source_faults self.new) }
         ensures counted { std_source_faults self.old ≤ std_source_faults self.new }
 
@@ -50,9 +60,12 @@ impl<R: Read> Source for StdSource<R> {
         ensures no_fault { OnOk result (std_source_faults self.new ≡ std_source_faults self.old) }
     {
         match self.inner.read(buf) {
-            Ok(n) => Ok(n),
+            Ok(n) => {
+                self.taken = raised(self.taken, n as u64);
+                Ok(n)
+            }
             Err(_) => {
-                self.faults = raised(self.faults);
+                self.faults = raised(self.faults, 1);
                 Err(Trouble::Failed)
             }
         }
@@ -105,7 +118,7 @@ impl<W: Write> Sink for StdSink<W> {
         match self.inner.write(bytes) {
             Ok(n) if n > 0 || bytes.is_empty() => Ok(n),
             _ => {
-                self.faults = raised(self.faults);
+                self.faults = raised(self.faults, 1);
                 Err(Trouble::Failed)
             }
         }

@@ -1,5 +1,7 @@
+//! A source and a sink over a `Vec`, which never fail.
 ghost use Rattle.std.specs.Prelude.{◌≡◌, ◌<◌, ◌≤◌, [], length, take, min, vec_len, Some, Ok, IfOk, IsErrOf};
 ghost use Rattle.std.specs.Io.KnownBytes.{ReadConsumes, WriteAppends};
+ghost use Rattle.lv_base.specs.Counts.{CountsRead};
 
 use super::sink::Sink;
 use super::source::{Source, Trouble};
@@ -14,27 +16,31 @@ pub struct VecSource {
 }
 
 impl VecSource {
-    ghost use Rattle.lv_base.specs.Vector.{vec_source_left};
+    ghost use Rattle.lv_base.specs.Vector.{vec_source_left, vec_source_read};
 
     /// A source of all of `bytes`.
     pub fn new(bytes: Vec<u8>) -> VecSource
-        ensures { vec_source_left result ≡ bytes.items }
+        ensures left { vec_source_left result ≡ bytes.items }
+        ensures read { vec_source_read result ≡ 0 }
     {
         VecSource { bytes, taken: 0 }
     }
 }
 
 impl Source for VecSource {
-    ghost use Rattle.lv_base.specs.Vector.{vec_source_left};
+    ghost use Rattle.lv_base.specs.Vector.{vec_source_left, vec_source_read};
 
     ghost left = { λ s. Some (vec_source_left s) };
 
     ghost faults = { λ _. 0 };
 
+    ghost bytes_read = { vec_source_read };
+
     /// Reads as many bytes as `buf` has room for and the source has left. It never errs.
     fn read(&mut self, buf: &mut [u8]) -> Result<usize, Trouble>
         ensures bound { IfOk result (λ n. n ≤ length buf.new) }
         ensures bytes { ReadConsumes (Some (vec_source_left self.old)) (Some (vec_source_left self.new)) result buf.new }
+        ensures bytes_counted { CountsRead (vec_source_read self.old) (vec_source_read self.new) result }
         ensures amount { result ≡ Ok (min (length buf.old) (length (vec_source_left self.old))) }
     {
         let n = copy_front(&self.bytes[self.taken..], buf);

@@ -12,7 +12,7 @@ use Rattle.levee_top.specs.declared.front.refusal.SourceRefusal.TheVariants as r
 use Rattle.levee_top.specs.declared.front.tree.Statement.{Statement}
 use Rattle.levee_top.specs.declared.front.tree.Statement.TheVariants.{SetNumber, SetFunction, Invoke, PrintNumber, PrintGlobal}
 use Rattle.levee_top.specs.Source.{statement_texts, body_texts, IsName, HasNumbers}
-use Rattle.levee_top.specs.Reading.{Fails, GivesWithRest, behind, statement_at, ReadsBody}
+use Rattle.levee_top.specs.inner.Reading.{Fails, GivesWithRest, behind, statement_at, ReadsBody}
 use Rattle.levee_top.proofs.front_laws.Parsing.{behind_found, behind_again, behind_other, IsReadable, statement_found, statement_again}
 
 -- Reading goes on from a rest where it was so far: what is read there, and nothing else, goes on with what was read.

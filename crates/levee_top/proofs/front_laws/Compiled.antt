@@ -19,8 +19,8 @@ use Rattle.levee_top.specs.declared.front.tree.Item.TheVariants as item
 use Rattle.levee_top.specs.declared.front.tree.Source.{Source}
 use Rattle.levee_top.specs.Source.{texts_of, source_texts, main_texts, item_texts, name_of, item_body, IsName, HasNumbers, IsProper, is_white, is_mark, is_word_byte, with_word_byte, onto_first, begins_word}
 use Rattle.levee_top.specs.Elaborate.{Declared, IntegerAt, PointerAt, FunctionAt, find, set_number_code, set_function_code, invoke_code, print_global_code, statement_code, body_code, main_function, void_function, item_functions, functions_behind, source_functions, globals_of, with_entry, program_of, IsWithinLimits, IsProgramOf}
-use Rattle.levee_top.specs.Reading.{GivesBy, ReadsSource}
-use Rattle.levee_top.specs.Elaboration.{Elaborates}
+use Rattle.levee_top.specs.inner.Reading.{GivesBy, ReadsSource}
+use Rattle.levee_top.specs.inner.Elaboration.{Elaborates}
 use Rattle.levee_top.proofs.front_laws.Parsing.{IsReadable}
 use Rattle.levee_top.proofs.front_laws.Items.{IsReadableItem, item_some, source_found, source_again, source_unique}
 use Rattle.levee_top.proofs.front_laws.Elaborated.{both_parts, contains_found}

@@ -21,11 +21,11 @@ use Rattle.levee_top.specs.declared.front.refusal.SourceRefusal.{SourceRefusal}
 use Rattle.levee_top.specs.declared.front.refusal.SourceRefusal.TheVariants as refusal
 use Rattle.levee_top.specs.declared.front.symbols.Symbol.{Symbol}
 use Rattle.levee_top.specs.declared.front.elaborate.Elaboration.{Elaboration}
-use Rattle.levee_top.specs.Reading.{Fails, GivesBy}
+use Rattle.levee_top.specs.inner.Reading.{Fails, GivesBy}
 use Rattle.levee_top.specs.Source.{name_of, AreDistinct}
 use Rattle.levee_top.specs.Elaborate.{Declared, declared_by, globals_in, functions_in, find_behind, find, both, body_code, void_function, main_function, item_functions, functions_behind, item_globals, globals_of, source_functions, with_entry, program_of}
-use Rattle.levee_top.specs.Symbols.{symbol_of, declared_of, look_up, body_under}
-use Rattle.levee_top.specs.Elaboration.{functions_under, look_with, AddsItem, Refuses, Elaborates}
+use Rattle.levee_top.specs.inner.Symbols.{symbol_of, declared_of, look_up, body_under}
+use Rattle.levee_top.specs.inner.Elaboration.{functions_under, look_with, AddsItem, Refuses, Elaborates}
 use Rattle.levee_top.proofs.front_laws.Elaborating.{body_is}
 
 -- ---- lists that may be there

@@ -15,9 +15,9 @@ use Rattle.levee_top.specs.declared.front.symbols.Symbol.{Symbol}
 use Rattle.levee_top.specs.declared.front.symbols.Symbol.TheVariants as symbol
 use Rattle.levee_top.specs.declared.front.elaborate.Elaboration.{Elaboration}
 use Rattle.levee_top.specs.Elaborate.{Declared, find, set_number_code, set_function_code, invoke_code, print_global_code, statement_code, both, body_code, void_function}
-use Rattle.levee_top.specs.Reading.{Fails}
-use Rattle.levee_top.specs.Symbols.{SymbolTable, IsDeclared, declared_of, look_up, code_under, body_under}
-use Rattle.levee_top.specs.Elaboration.{look_with, AddsItem, Refuses}
+use Rattle.levee_top.specs.inner.Reading.{Fails}
+use Rattle.levee_top.specs.inner.Symbols.{SymbolTable, IsDeclared, declared_of, look_up, code_under, body_under}
+use Rattle.levee_top.specs.inner.Elaboration.{look_with, AddsItem, Refuses}
 
 -- ---- code under what names stand for
 

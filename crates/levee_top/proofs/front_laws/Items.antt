@@ -13,7 +13,7 @@ use Rattle.levee_top.specs.declared.front.tree.Item.{Item}
 use Rattle.levee_top.specs.declared.front.tree.Item.TheVariants.{Integer, Pointer, Function}
 use Rattle.levee_top.specs.declared.front.tree.Source.{Source}
 use Rattle.levee_top.specs.Source.{body_texts, heading, item_texts, source_texts, item_body, name_of, begins_name, IsName, HasNumbers}
-use Rattle.levee_top.specs.Reading.{◌>>=◌, GivesBy, GivesWithRest, first_of, behind, behind_all, pointer_front, pointer_back, heading_at, main_at, main_end_at, integer_at, pointer_at, function_at, ReadsBody, ReadsItem, ReadsItems, ReadsSource}
+use Rattle.levee_top.specs.inner.Reading.{◌>>=◌, GivesBy, GivesWithRest, first_of, behind, behind_all, pointer_front, pointer_back, heading_at, main_at, main_end_at, integer_at, pointer_at, function_at, ReadsBody, ReadsItem, ReadsItems, ReadsSource}
 use Rattle.levee_top.proofs.front_laws.Parsing.{bind_some, first_found, behind_found, behind_other, IsReadable}
 use Rattle.levee_top.proofs.front_laws.Bodies.{IsPartOf, part_refused, part_more, rest_within, rest_is, body_found, body_again, body_unique}
 

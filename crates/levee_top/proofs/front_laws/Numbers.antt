@@ -15,7 +15,7 @@ use Rattle.std.proofs.lemmas.Str.Parse.{IsNumeralModel, IsDigitsTest, numerals_b
 use Rattle.std.proofs.lemmas.Fmt.{digits_decimal, digits_value-decimal, decimal_digit, decimal_nonempty, first_decimal, decimal-digits_value, IsAscii-from_digits}
 use Rattle.std.proofs.lemmas.Option.{cond_some}
 use Rattle.levee_top.specs.Source.{is_name_start, IsNumber}
-use Rattle.levee_top.specs.Reading.{is_canonical, number_at}
+use Rattle.levee_top.specs.inner.Reading.{is_canonical, number_at}
 
 abbrev AreDigits : List ℕ → Type 0
 AreDigits ds = list_all is_ascii_digit ds ≡ true

@@ -10,7 +10,7 @@ use Rattle.std.proofs.lemmas.Slice.Eq.{bytes_eq-Decides}
 use Rattle.levee_top.specs.declared.front.tree.Statement.{Statement}
 use Rattle.levee_top.specs.declared.front.tree.Statement.TheVariants.{SetNumber, SetFunction, Invoke, PrintNumber, PrintGlobal}
 use Rattle.levee_top.specs.Source.{begins_name, statement_texts, IsName, IsNumber, HasNumbers}
-use Rattle.levee_top.specs.Reading.{◌>>=◌, is_canonical, number_at, first_of, behind, assigned, assignment_at, printed, printed_at, call_closed, call_at, statement_from, statement_at}
+use Rattle.levee_top.specs.inner.Reading.{◌>>=◌, is_canonical, number_at, first_of, behind, assigned, assignment_at, printed, printed_at, call_closed, call_at, statement_from, statement_at}
 use Rattle.levee_top.proofs.front_laws.Numbers.{number_found, number_again, canonical_first}
 
 -- the value of a step that gave one

@@ -2,7 +2,7 @@
 use Rattle.std.proofs.Common.{◌≡◌, ℕ, zero, suc, ◌<◌, ◌≤◌, true, false, List, [], ◌∷◌, ◌++◌, length, get_or, take, drop, Option, Some, None, refl, sym, ap, ◌∙◌, append_assoc, arith}
 use Rattle.std.specs.Option.{option_map}
 use Rattle.std.proofs.lemmas.Bool.Decides.{nat_tests}
-use Rattle.levee_top.specs.Reading.{begins_white}
+use Rattle.levee_top.specs.inner.Reading.{begins_white}
 use Rattle.levee_top.specs.Source.{is_white, is_mark, is_word_byte, begins_word, with_word_byte, texts_of}
 
 word_not_white : (b : ℕ) → is_word_byte b ≡ true → is_white b ≡ false

@@ -2,9 +2,9 @@ ghost use Rattle.std.specs.Prelude.{◌≡◌, ◌∷◌, [], ◌<◌, ◌^◌, 
 ghost use Rattle.std.specs.Option.{option_map};
 ghost use Rattle.levee_top.specs.Elaborate.{set_number_code, set_function_code, invoke_code, print_global_code, void_function, main_function, entry_function, with_entry};
 ghost use Rattle.levee_top.specs.Source.{name_of};
-ghost use Rattle.levee_top.specs.Reading.{Gives, GivesBy};
-ghost use Rattle.levee_top.specs.Symbols.{look_up, code_under, body_under, behind_code};
-ghost use Rattle.levee_top.specs.Elaboration.{AddsItem, Refuses, Elaborates};
+ghost use Rattle.levee_top.specs.inner.Reading.{Gives, GivesBy};
+ghost use Rattle.levee_top.specs.inner.Symbols.{look_up, code_under, body_under, behind_code};
+ghost use Rattle.levee_top.specs.inner.Elaboration.{AddsItem, Refuses, Elaborates};
 
 use super::refusal::SourceRefusal;
 use super::symbols::{Symbol, SymbolTable, declare, find};

@@ -1,7 +1,7 @@
 ghost use Rattle.std.specs.Prelude.{◌≡◌};
 ghost use Rattle.std.specs.List.{list_all};
 ghost use Rattle.std.specs.Char.{is_ascii_digit};
-ghost use Rattle.levee_top.specs.Reading.{is_canonical, number_at};
+ghost use Rattle.levee_top.specs.inner.Reading.{is_canonical, number_at};
 
 use std::str;
 
@@ -16,7 +16,7 @@ pub fn number(text: &[u8]) -> Option<i64>
 }
 
 /// Whether bytes are decimal digits without a leading 0, unless that is all.
-#[tactic(auto, unfolding(crate::specs::Reading::is_canonical))]
+#[tactic(auto, unfolding(crate::specs::inner::Reading::is_canonical))]
 fn is_canonical(text: &[u8]) -> bool
     ensures { result ≡ is_canonical text.now }
 {

@@ -1,6 +1,6 @@
 ghost use Rattle.std.specs.Prelude.{◌≡◌, IfOk};
 ghost use Rattle.std.specs.Option.{option_map};
-ghost use Rattle.levee_top.specs.Reading.{Gives, behind, first_of, assignment_at, printed_at, call_at, statement_at, GivesBy, GivesWithRest, ReadsBody, heading_at, main_at, main_end_at, integer_at, pointer_at, function_at, ReadsItem, ReadsItems, ReadsSource};
+ghost use Rattle.levee_top.specs.inner.Reading.{Gives, behind, first_of, assignment_at, printed_at, call_at, statement_at, GivesBy, GivesWithRest, ReadsBody, heading_at, main_at, main_end_at, integer_at, pointer_at, function_at, ReadsItem, ReadsItems, ReadsSource};
 
 use super::number::number;
 use super::refusal::SourceRefusal;
@@ -64,7 +64,7 @@ fn item<'a, 't>(
 }
 
 /// The name of `int NAME;`, and the texts behind it.
-#[tactic(auto, unfolding(crate::specs::Reading::integer_at))]
+#[tactic(auto, unfolding(crate::specs::inner::Reading::integer_at))]
 fn integer<'a, 't>(texts: &'a [Text<'t>]) -> Option<(&'t [u8], &'a [Text<'t>])>
     ensures { option_map (λ x. (x.0.now, x.1.now)) result ≡ integer_at texts.now }
 {
@@ -73,7 +73,7 @@ fn integer<'a, 't>(texts: &'a [Text<'t>]) -> Option<(&'t [u8], &'a [Text<'t>])>
 }
 
 /// The name of `void (*NAME)(void);`, and the texts behind it.
-#[tactic(auto, unfolding(crate::specs::Reading::pointer_at))]
+#[tactic(auto, unfolding(crate::specs::inner::Reading::pointer_at))]
 fn pointer<'a, 't>(texts: &'a [Text<'t>]) -> Option<(&'t [u8], &'a [Text<'t>])>
     ensures { option_map (λ x. (x.0.now, x.1.now)) result ≡ pointer_at texts.now }
 {
@@ -85,7 +85,7 @@ fn pointer<'a, 't>(texts: &'a [Text<'t>]) -> Option<(&'t [u8], &'a [Text<'t>])>
 }
 
 /// The name of `void NAME(void){`, and the texts behind it.
-#[tactic(auto, unfolding(crate::specs::Reading::function_at))]
+#[tactic(auto, unfolding(crate::specs::inner::Reading::function_at))]
 fn function_head<'a, 't>(texts: &'a [Text<'t>]) -> Option<(&'t [u8], &'a [Text<'t>])>
     ensures { option_map (λ x. (x.0.now, x.1.now)) result ≡ function_at texts.now }
 {
@@ -94,7 +94,7 @@ fn function_head<'a, 't>(texts: &'a [Text<'t>]) -> Option<(&'t [u8], &'a [Text<'
 }
 
 /// The texts behind `int main(void){`.
-#[tactic(auto, unfolding(crate::specs::Reading::main_at))]
+#[tactic(auto, unfolding(crate::specs::inner::Reading::main_at))]
 fn main_head<'a, 't>(texts: &'a [Text<'t>]) -> Option<&'a [Text<'t>]>
     ensures { option_map (λ rest. rest.now) result ≡ main_at texts.now }
 {
@@ -102,7 +102,7 @@ fn main_head<'a, 't>(texts: &'a [Text<'t>]) -> Option<&'a [Text<'t>]>
 }
 
 /// The texts behind the `0; }` that follows the `return` of `main`.
-#[tactic(auto, unfolding(crate::specs::Reading::main_end_at))]
+#[tactic(auto, unfolding(crate::specs::inner::Reading::main_end_at))]
 fn main_end<'a, 't>(texts: &'a [Text<'t>]) -> Option<&'a [Text<'t>]>
     ensures { option_map (λ rest. rest.now) result ≡ main_end_at texts.now }
 {
@@ -110,7 +110,7 @@ fn main_end<'a, 't>(texts: &'a [Text<'t>]) -> Option<&'a [Text<'t>]>
 }
 
 /// The texts behind `(void){`.
-#[tactic(auto, unfolding(crate::specs::Reading::heading_at))]
+#[tactic(auto, unfolding(crate::specs::inner::Reading::heading_at))]
 fn heading<'a, 't>(texts: &'a [Text<'t>]) -> Option<&'a [Text<'t>]>
     ensures { option_map (λ rest. rest.now) result ≡ heading_at texts.now }
 {
@@ -137,7 +137,7 @@ fn body<'a, 't>(
 }
 
 /// The statement that texts begin with, and the texts behind it.
-#[tactic(auto, unfolding(crate::specs::Reading::statement_at))]
+#[tactic(auto, unfolding(crate::specs::inner::Reading::statement_at))]
 fn statement<'a, 't>(
     alloc: Global,
     texts: &'a [Text<'t>],
@@ -152,7 +152,7 @@ fn statement<'a, 't>(
 }
 
 /// What stands behind `G =`.
-#[tactic(auto, unfolding(crate::specs::Reading::assignment_at))]
+#[tactic(auto, unfolding(crate::specs::inner::Reading::assignment_at))]
 fn assignment<'a, 't>(
     alloc: Global,
     name: &[u8],
@@ -173,7 +173,7 @@ fn assignment<'a, 't>(
 }
 
 /// What stands behind `X (`.
-#[tactic(auto, unfolding(crate::specs::Reading::call_at))]
+#[tactic(auto, unfolding(crate::specs::inner::Reading::call_at))]
 fn call<'a, 't>(
     alloc: Global,
     name: &[u8],
@@ -192,7 +192,7 @@ fn call<'a, 't>(
 }
 
 /// What stands behind `print (`, unless that is `)`.
-#[tactic(auto, unfolding(crate::specs::Reading::printed_at))]
+#[tactic(auto, unfolding(crate::specs::inner::Reading::printed_at))]
 fn printed<'a, 't>(
     alloc: Global,
     texts: &'a [Text<'t>],
@@ -221,7 +221,7 @@ fn expect<'a, 't>(texts: &'a [Text<'t>], wanted: &[u8]) -> Result<&'a [Text<'t>]
 }
 
 /// The texts behind this one, or `None` where they don't begin with it.
-#[tactic(auto, unfolding(crate::specs::Reading::behind))]
+#[tactic(auto, unfolding(crate::specs::inner::Reading::behind))]
 fn behind<'a, 't>(texts: &'a [Text<'t>], wanted: &[u8]) -> Option<&'a [Text<'t>]>
     ensures { option_map (λ rest. rest.now) result ≡ behind wanted.now texts.now }
 {

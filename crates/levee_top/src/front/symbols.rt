@@ -1,6 +1,6 @@
 ghost use Rattle.std.specs.Prelude.{◌≡◌, List, ℕ, Some, None, cond, OnOk, IsErrOf, IfErr, IsSome};
 ghost use Rattle.std.specs.Str.{bytes_eq};
-ghost use Rattle.levee_top.specs.Symbols.{symbol_of, IsDeclared};
+ghost use Rattle.levee_top.specs.inner.Symbols.{symbol_of, IsDeclared};
 
 use super::refusal::SourceRefusal;
 use std::alloc::Global;

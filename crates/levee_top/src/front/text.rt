@@ -1,7 +1,7 @@
 ghost use Rattle.std.specs.Prelude.{◌≡◌, ◌≢◌, ◌<◌, ◌≤◌, ◌∷◌, ℕ, true, false, length, take, drop, slice_index, MatchOption};
 ghost use Rattle.std.specs.Option.{option_map};
 ghost use Rattle.levee_top.specs.Source.{is_white, is_mark, is_word_byte, is_name_start, texts_of};
-ghost use Rattle.levee_top.specs.Reading.{Gives, begins_white};
+ghost use Rattle.levee_top.specs.inner.Reading.{Gives, begins_white};
 
 use super::refusal::SourceRefusal;
 use std::alloc::Global;

@@ -1,17 +1,17 @@
-use Rattle.std.proofs.Common.{◌≡◌, ◌-◌, List, ℕ, length, take, drop, inr, arith, sym, subst}
+use Rattle.std.proofs.Common.{take, drop, arith}
 use Rattle.std.proofs.lemmas.Grind.{common_steps}
-use Rattle.std.proofs.lemmas.Result.{IfOk-weaker}
-use Rattle.levee_top.specs.Lines.{IsCut}
+use Rattle.std.proofs.lemmas.Result.{err_from_is_err_and}
+use Rattle.job.specs.Lines.{IsCut}
+use Rattle.levee_top.proofs.FailureLemmas.{source_fails, script_fails}
 use Rattle.levee_top.proofs.answer.answer_job.Goals as goal
 
--- a slice from a place to the end is what is behind the place
-to_end : (xs : List ℕ) (n : ℕ) → take (length xs - n) (drop n xs) ≡ drop n xs
-to_end xs n = grind (arith, common_steps)
+pub returns-in_err-program-clause-fails : goal.returns-in_err-program-clause-fails
+returns-in_err-program-clause-fails c =
+    let p = err_from_is_err_and c.from_residual-in_err-program.result c.from_residual-in_err-program.ensures.1 in
+    let cut : IsCut c.args.job.now (take c.in_ok-cut.cut.source_end c.args.job.now) (drop c.in_ok-cut.cut.script_start c.args.job.now) = grind (arith, common_steps) in
+    rw (p.1, p.2) (source_fails c.args.job.now _ _ _ (record { small = c.requires; cut = cut }) c.in_err-program.ensures.only)
 
-pub returns-in-Some : goal.returns-in-Some
-returns-in-Some c =
-    let job = c.args.job.now in
-    let cut = c.in-Some.cut in
-    let is_cut : IsCut job (take cut.source_end job) (take (length job - cut.script_start) (drop cut.script_start job))
-    = subst (λ (script : List ℕ). IsCut job (take cut.source_end job) script) (sym (to_end job cut.script_start)) c.in-Some.ensures.found.2 in
-    IfOk-weaker c.answer_source.result _ _ (λ a h. inr (c.requires, (_, _, is_cut, h))) c.answer_source.ensures
+pub returns-in_err-events-clause-fails : goal.returns-in_err-events-clause-fails
+returns-in_err-events-clause-fails c =
+    let p = err_from_is_err_and c.from_residual-in_err-events.result c.from_residual-in_err-events.ensures.1 in
+    rw (p.1, p.2) (script_fails c.args.job.now _ _ _ _ (record { small = c.requires; cut = grind (arith, common_steps) }) c.in_ok-program.ensures.found c.in_err-events.ensures.refused)

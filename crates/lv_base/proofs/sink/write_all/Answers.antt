@@ -1,6 +1,6 @@
 use Rattle.std.proofs.Common.{arith}
 use Rattle.std.proofs.lemmas.Grind.{common_steps}
-use Rattle.lv_base.proofs.Told.{Appends-more, Appends-kept, AppendsFront-from_split, split-more}
+use Rattle.lv_base.proofs.WholeLemmas.{Appends-more, Appends-kept, AppendsFront-from_split, split-more}
 use Rattle.lv_base.proofs.sink.write_all.Goals as goal
 
 pub loop-rest-preserved : goal.loop-rest-preserved

@@ -1,5 +1,5 @@
 use Rattle.std.proofs.Common.{◌≡◌, drop}
-use Rattle.levee_top.specs.Symbols.{look_up, body_under, behind_code}
+use Rattle.levee_top.specs.inner.Symbols.{look_up, body_under, behind_code}
 use Rattle.levee_top.proofs.front.elaborate.body_code.Given as goal
 
 -- the code so far and that of the rest are the code of all

@@ -1,7 +1,7 @@
 use Rattle.std.proofs.Common.{◌≡◌, ℕ, true, false, List, sym, subst, ◌∙◌, rules}
 use Rattle.std.specs.Str.Parse.{ParsesSigned}
 use Rattle.std.specs.Int.{w64}
-use Rattle.levee_top.specs.Reading.{is_canonical, number_at}
+use Rattle.levee_top.specs.inner.Reading.{is_canonical, number_at}
 use Rattle.levee_top.proofs.front_laws.Numbers.{from_text, is_text, parsed}
 use Rattle.levee_top.proofs.front.number.number.Goals as goal
 

@@ -1,7 +1,7 @@
 use Rattle.std.proofs.Common.{◌≡◌, drop, arith, None}
 use Rattle.std.proofs.lemmas.List.{take_rest}
 use Rattle.std.proofs.lemmas.Result.{err_from_is_err_and}
-use Rattle.levee_top.specs.Reading.{behind, ReadsBody}
+use Rattle.levee_top.specs.inner.Reading.{behind, ReadsBody}
 use Rattle.levee_top.proofs.front_laws.Bodies.{none_from_test, body_more, body_ends, statement_takes, part_done}
 use Rattle.levee_top.proofs.front.parse.body.Goals as goal
 

@@ -1,6 +1,6 @@
 use Rattle.std.proofs.Common.{◌≤◌, ◌-◌, length, drop}
 use Rattle.levee_top.proofs.front_laws.Bodies.{IsPartOf}
-use Rattle.levee_top.specs.Reading.{ReadsBody}
+use Rattle.levee_top.specs.inner.Reading.{ReadsBody}
 use Rattle.levee_top.proofs.front.parse.body.Given as goal
 
 -- the place is in the texts, and what is read from the rest goes on with what was read so far

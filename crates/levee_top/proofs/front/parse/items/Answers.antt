@@ -2,7 +2,7 @@ use Rattle.std.proofs.Common.{◌≡◌, drop, arith, None, Some, Err, List, ℕ
 use Rattle.std.specs.Option.{option_map}
 use Rattle.std.proofs.lemmas.List.{take_rest}
 use Rattle.std.proofs.lemmas.Result.{err_from_is_err_and}
-use Rattle.levee_top.specs.Reading.{main_at, GivesWithRest, ReadsItem, ReadsItems}
+use Rattle.levee_top.specs.inner.Reading.{main_at, GivesWithRest, ReadsItem, ReadsItems}
 use Rattle.levee_top.proofs.front_laws.Bodies.{none_from_test, part_done}
 use Rattle.levee_top.proofs.front_laws.Items.{items_more, items_end, item_takes}
 use Rattle.levee_top.proofs.front.parse.items.Goals as goal

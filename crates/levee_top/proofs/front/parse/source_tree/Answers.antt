@@ -2,7 +2,7 @@ use Rattle.std.proofs.Common.{◌≡◌, List, ℕ, [], None, Some, length, eqb,
 use Rattle.std.specs.Option.{option_map}
 use Rattle.std.proofs.lemmas.Bool.{true≢false}
 use Rattle.std.proofs.lemmas.Result.{err_from_is_err_and}
-use Rattle.levee_top.specs.Reading.{main_end_at}
+use Rattle.levee_top.specs.inner.Reading.{main_end_at}
 use Rattle.levee_top.proofs.front_laws.Items.{body_refuses, no_end, refused_is}
 use Rattle.levee_top.proofs.front.parse.source_tree.Goals as goal
 

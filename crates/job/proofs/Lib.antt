@@ -1,0 +1,3 @@
+pub mod CutIsFound
+pub mod LinesLemmas
+pub mod OneCut

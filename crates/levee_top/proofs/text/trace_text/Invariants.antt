@@ -1,7 +1,0 @@
-use Rattle.std.proofs.Common.{◌≡◌, ◌++◌, drop}
-use Rattle.levee_top.specs.Text.{trace_text}
-use Rattle.levee_top.proofs.text.trace_text.Given as goal
-
--- what is written and the text of what is left are the whole text
-abbrev pub invariant-loop-entry : goal.invariant-loop-entry
-invariant-loop-entry l = l.text.items ++ trace_text l.full (drop l.entry-index l.trace) ≡ trace_text l.full l.trace

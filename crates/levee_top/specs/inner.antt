@@ -1,0 +1,4 @@
+pub mod Elaboration
+pub mod Failure
+pub mod Reading
+pub mod Symbols

@@ -1,0 +1,8 @@
+//! The text of a run: a line for each record of its trace, in full or in brief.
+#![tactic(auto)]
+
+mod field;
+mod record;
+mod text;
+
+pub use text::trace_text;
