@@ -112,6 +112,7 @@ impl Shared {
         requires own { seat.old.store ≡ self.now }
         requires amount { (1 ≤ k) × (k ≤ 256) }
         ensures called { SeatCall seat.old seat.new (Alloc k) (Slot result) 0 0 }
+        ensures own { seat.new.store ≡ self.now }
         ensures left { puts_left seat.new ≡ puts_left seat.old }
     {
         self.table.alloc(&mut seat.seat, k)
@@ -122,6 +123,7 @@ impl Shared {
         requires own { seat.old.store ≡ self.now }
         requires inside { id < self.now.size.slots }
         ensures called { SeatCall seat.old seat.new (Free id) (Flag result) 0 0 }
+        ensures own { seat.new.store ≡ self.now }
         ensures left { puts_left seat.new ≡ puts_left seat.old }
     {
         self.table.free(&mut seat.seat, id)
@@ -132,6 +134,7 @@ impl Shared {
         requires own { seat.old.store ≡ self.now }
         requires inside { id < self.now.size.slots }
         ensures called { SeatCall seat.old seat.new (Look id) (Flag result) 0 0 }
+        ensures own { seat.new.store ≡ self.now }
         ensures left { puts_left seat.new ≡ puts_left seat.old }
     {
         self.table.look(&mut seat.seat, id)
@@ -141,6 +144,7 @@ impl Shared {
     pub fn fork(&self, seat: &mut ThreadSeat) -> Option<u8>
         requires own { seat.old.store ≡ self.now }
         ensures called { SeatCall seat.old seat.new Fork (Thread result) 0 0 }
+        ensures own { seat.new.store ≡ self.now }
         ensures left { puts_left seat.new ≡ puts_left seat.old }
     {
         self.table.fork(&mut seat.seat)
@@ -151,6 +155,7 @@ impl Shared {
         requires own { seat.old.store ≡ self.now }
         requires inside { a < 64 * self.now.size.slots }
         ensures called { SeatCall seat.old seat.new (Get a) (Found result.entry) result.put 0 }
+        ensures own { seat.new.store ≡ self.now }
         ensures entry { IfSome result.entry (IsEntry self.now.size) }
         ensures left { puts_left seat.new ≡ puts_left seat.old }
     {
@@ -171,6 +176,7 @@ impl Shared {
         requires entry { IsEntry self.now.size e }
         requires room { 0 < puts_left seat.old }
         ensures called { SeatCall seat.old seat.new (Put a e) Nothing result.put result.before }
+        ensures own { seat.new.store ≡ self.now }
         ensures number { result.put ≡ next_number seat.old }
         ensures left { puts_left seat.new + 1 ≡ puts_left seat.old }
     {
@@ -188,6 +194,7 @@ impl Shared {
         requires own { seat.old.store ≡ self.now }
         requires others { other.old.store ≡ self.now }
         ensures learnt { Meets seat.old other.old seat.new }
+        ensures own { seat.new.store ≡ self.now }
         ensures same { other.new ≡ other.old }
     {
         self.table.meet(&mut seat.seat, &mut other.seat);

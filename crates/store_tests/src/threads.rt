@@ -1,5 +1,5 @@
 //! Threads that call one store beside one another.
-ghost use Rattle.std.specs.Prelude.{◌≡◌, ◌*◌, ◌≤◌, ◌<◌, All};
+ghost use Rattle.std.specs.Prelude.{◌≡◌, ◌*◌, ◌^◌, ◌≤◌, ◌<◌, All};
 ghost use Rattle.safe_table.specs.Seat.{puts_left};
 
 use meaning::Entry;
