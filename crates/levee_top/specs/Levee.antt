@@ -2,7 +2,7 @@
 use Rattle.std.specs.Prelude.{◌≡◌, ℕ, List, length, Option, Some, None}
 use Rattle.std.specs.Io.KnownBytes.{Appends}
 use Rattle.lv_base.specs.Counts.{raised_by}
-use Rattle.lv_base.specs.Whole.{AppendsFront}
+use Rattle.lv_base.specs.Whole.{AppendsPrefix}
 use Rattle.meaning.specs.Legal.{LegalHistory}
 use Rattle.meaning.specs.small.Trace.{calls_of, trace_of}
 use Rattle.meaning.specs.small.Transfers.{GoodTransfers}
@@ -58,9 +58,9 @@ pub record Writes (words : List (List ℕ)) (told : Option (List ℕ)) (before a
   pub legal : IsLegal gives.outcome
   pub appended : Appends held new text
 
--- a front of such a text was appended
-pub record WritesFront (words : List (List ℕ)) (told : Option (List ℕ)) (before after : ℕ) (held new : Option (List ℕ)) : Type 0 where
+-- a prefix of such a text was appended
+pub record WritesPrefix (words : List (List ℕ)) (told : Option (List ℕ)) (before after : ℕ) (held new : Option (List ℕ)) : Type 0 where
   pub status : Status
   pub text : List ℕ
   pub gives : Gives words told before after status text
-  pub appended : AppendsFront held new text
+  pub appended : AppendsPrefix held new text

@@ -2,11 +2,11 @@
 ghost use Rattle.std.specs.Prelude.{◌≡◌, ◌≤◌, ◌⊎◌, ◌++◌, ℕ, List, Some, length, map, string_bytes, IfOk, IfErr, OnOk, IsErrOf};
 ghost use Rattle.std.specs.Io.KnownBytes.{Appends, Keeps, IsAtEnd};
 ghost use Rattle.lv_base.specs.Counts.{Rose};
-ghost use Rattle.lv_base.specs.Whole.{AppendsFront};
+ghost use Rattle.lv_base.specs.Whole.{AppendsPrefix};
 ghost use Rattle.levee_top.specs.declared.refusal.Refusal.TheVariants as refusal;
 ghost use Rattle.levee_top.specs.declared.status.Status.{Status};
 ghost use Rattle.levee_top.specs.Command.{IsNoCommand};
-ghost use Rattle.levee_top.specs.Levee.{IsWhole, IsAcceptance, Gives, Writes, WritesFront};
+ghost use Rattle.levee_top.specs.Levee.{IsWhole, IsAcceptance, Gives, Writes, WritesPrefix};
 ghost use Rattle.levee_top.specs.Outcome.{Outcome};
 ghost use Rattle.levee_top.specs.Refusal.{refusal_text, IsRefused};
 ghost use Rattle.levee_top.specs.inner.Failure.{Ends};
@@ -79,7 +79,7 @@ fn deliver<K: Sink>(sink: &mut K, text: &[u8], status: Status) -> Status
     requires { IsWhole status }
     ensures whole { IsWhole result → result ≡ status }
     ensures text { IsWhole result → Appends (K.contents sink.old) (K.contents sink.new) text.now }
-    ensures front { AppendsFront (K.contents sink.old) (K.contents sink.new) text.now }
+    ensures prefix { AppendsPrefix (K.contents sink.old) (K.contents sink.new) text.now }
     ensures cause { (result ≡ status) ⊎ ((result ≡ Status.WriteFault) ⊎ (result ≡ Status.Memory)) }
     ensures fault { result ≡ Status.WriteFault → Rose (K.faults sink.old) (K.faults sink.new) }
     ensures counted { K.faults sink.old ≤ K.faults sink.new }
@@ -123,15 +123,15 @@ pub fn levee<S: Source, K: Sink>(
     ensures usage_line { result ≡ Status.Usage
         → Appends (K.contents sink.old) (K.contents sink.new) (refusal_text refusal.Usage) }
 
-    // A read fault leaves nothing written, a write fault or want of memory nothing or a front of the text.
+    // A read fault leaves nothing written, a write fault or want of memory nothing or a prefix of the text.
     ensures read_fault { result ≡ Status.ReadFault → Rose (S.faults source.old) (S.faults source.new) }
     ensures unwritten { result ≡ Status.ReadFault → Keeps (K.contents sink.old) (K.contents sink.new) }
     ensures write_fault { result ≡ Status.WriteFault → Rose (K.faults sink.old) (K.faults sink.new) }
-    ensures front { result ≡ Status.WriteFault → WritesFront (map string_bytes words.now)
+    ensures prefix { result ≡ Status.WriteFault → WritesPrefix (map string_bytes words.now)
         (S.left source.old) (S.bytes_read source.old) (S.bytes_read source.new)
         (K.contents sink.old) (K.contents sink.new) }
     ensures memory { result ≡ Status.Memory → Keeps (K.contents sink.old) (K.contents sink.new)
-        ⊎ WritesFront (map string_bytes words.now)
+        ⊎ WritesPrefix (map string_bytes words.now)
         (S.left source.old) (S.bytes_read source.old) (S.bytes_read source.new)
         (K.contents sink.old) (K.contents sink.new) }
     ensures source_counted { S.faults source.old ≤ S.faults source.new }

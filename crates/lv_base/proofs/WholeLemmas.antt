@@ -4,7 +4,7 @@ use Rattle.std.proofs.lemmas.List.{length-take-le}
 use Rattle.std.proofs.Math.Seq.{take-append_seam}
 use Rattle.std.specs.Io.KnownBytes.{Appends, Consumes, Keeps}
 use Rattle.lv_base.specs.Counts.{raised_by}
-use Rattle.lv_base.specs.Whole.{Takes, TakesWithin, TakesAbove, AppendsFront}
+use Rattle.lv_base.specs.Whole.{Takes, TakesWithin, TakesAbove, AppendsPrefix}
 use Rattle.lv_base.proofs.CountsLemmas.{raised_by-raised_by}
 
 Consumes-more : (a b c : Option (List ℕ)) (xs ys : List ℕ) → Consumes a b xs → Consumes b c ys → Consumes a c (xs ++ ys)
@@ -62,13 +62,13 @@ Appends-kept (Some x) None c xs p q = absurd p
 Appends-kept (Some x) (Some y) None xs p q = absurd q
 Appends-kept (Some x) (Some y) (Some z) xs p q = q ∙ p
 
--- what was appended is a front of the piece
-pub AppendsFront-from_split : (a b : Option (List ℕ)) (piece front rest : List ℕ) → piece ≡ front ++ rest → Appends a b front → AppendsFront a b piece
-AppendsFront-from_split a b piece front rest e p =
+-- what was appended is a prefix of the piece
+pub AppendsPrefix-from_split : (a b : Option (List ℕ)) (piece front rest : List ℕ) → piece ≡ front ++ rest → Appends a b front → AppendsPrefix a b piece
+AppendsPrefix-from_split a b piece front rest e p =
     let whole : take (length front) piece ≡ front = ap (take (length front)) e ∙ take-append_seam front rest in
     let Q : List ℕ → Type 0 = λ l. Appends a b l in
     (length front, rw e (omega (arith, length-append front rest)), subst Q (sym whole) p)
 
--- the front grows by the first bytes of the rest
+-- the prefix grows by the first bytes of the rest
 pub split-more : (piece front rest next : List ℕ) (n : ℕ) → piece ≡ front ++ rest → next ≡ drop n rest → piece ≡ (front ++ take n rest) ++ next
 split-more piece front rest next n e d = rw (d, append_assoc, take-append-drop) e

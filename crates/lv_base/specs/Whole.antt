@@ -3,7 +3,7 @@ use Rattle.std.specs.Prelude.{◌≡◌, ℕ, ◌<◌, ◌≤◌, List, length, 
 use Rattle.std.specs.Io.KnownBytes.{Appends, Consumes}
 use Rattle.lv_base.specs.Counts.{raised_by}
 
--- these bytes were taken from the front of what was left, and each of them was counted
+-- these bytes were taken from the beginning of what was left, and each of them was counted
 pub record Takes (bytes : List ℕ) (old new : Option (List ℕ)) (before after : ℕ) : Type 0 where
   pub taken : Consumes old new bytes
   pub counted : after ≡ raised_by (length bytes) before
@@ -20,6 +20,6 @@ pub record TakesAbove (limit : ℕ) (old new : Option (List ℕ)) (before after 
   pub many : limit < length bytes
   pub takes : Takes bytes old new before after
 
--- some front of the piece was appended
-abbrev pub AppendsFront : Option (List ℕ) → Option (List ℕ) → List ℕ → Type 0
-AppendsFront old new piece = (n : ℕ) × (n ≤ length piece) × Appends old new (take n piece)
+-- some prefix of the piece was appended
+abbrev pub AppendsPrefix : Option (List ℕ) → Option (List ℕ) → List ℕ → Type 0
+AppendsPrefix old new piece = (n : ℕ) × (n ≤ length piece) × Appends old new (take n piece)

@@ -2,7 +2,7 @@
 ghost use Rattle.std.specs.Prelude.{ℕ, ◌<◌, ◌≤◌, List, Option, length, IfOk, OnOk, OnErr, IsErrOf};
 ghost use Rattle.std.specs.Io.KnownBytes.{Appends, WriteAppends};
 ghost use Rattle.lv_base.specs.Counts.{Rose};
-ghost use Rattle.lv_base.specs.Whole.{AppendsFront};
+ghost use Rattle.lv_base.specs.Whole.{AppendsPrefix};
 
 use super::source::Trouble;
 use thiserror::Error;
@@ -45,10 +45,10 @@ pub enum WriteEnd {
 /// # Errors
 ///
 /// `Fault` only where the sink's count of faults rose in this call, and `Memory`. Either leaves the
-/// sink with some front of `bytes` appended.
+/// sink with some prefix of `bytes` appended.
 pub fn write_all<K: Sink>(sink: &mut K, bytes: &[u8]) -> Result<(), WriteEnd>
     ensures all { OnOk result (Appends (K.contents sink.old) (K.contents sink.new) bytes.now) }
-    ensures front { OnErr result (AppendsFront (K.contents sink.old) (K.contents sink.new) bytes.now) }
+    ensures prefix { OnErr result (AppendsPrefix (K.contents sink.old) (K.contents sink.new) bytes.now) }
     ensures fault { IsErrOf result WriteEnd.Fault → Rose (K.faults sink.old) (K.faults sink.new) }
     ensures counted { K.faults sink.old ≤ K.faults sink.new }
 {

@@ -64,7 +64,7 @@ pub enum ReadEnd {
 /// # Errors
 ///
 /// `Fault` only where the source's count of faults rose in this call; `Long` exactly where more than
-/// `limit` bytes came; and `Memory`. Each leaves the source with some front of what was left taken: `Long`
+/// `limit` bytes came; and `Memory`. Each leaves the source with some prefix of what was left taken: `Long`
 /// with more than `limit` bytes of it, the other two with at most so many. All this holds by the source's
 /// count of bytes where it doesn't tell them.
 #[tactic(auto, using(crate::proofs::WholeLemmas::reads))]

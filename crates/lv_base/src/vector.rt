@@ -43,16 +43,16 @@ impl Source for VecSource {
         ensures bytes_counted { CountsRead (vec_source_read self.old) (vec_source_read self.new) result }
         ensures amount { result ≡ Ok (min (length buf.old) (length (vec_source_left self.old))) }
     {
-        let n = copy_front(&self.bytes[self.taken..], buf);
+        let n = copy_prefix(&self.bytes[self.taken..], buf);
         self.taken += n;
         Ok(n)
     }
 }
 
-/// Copies as much of the front of `from` as `buf` has room for, and answers how much.
-fn copy_front(from: &[u8], buf: &mut [u8]) -> usize
+/// Copies as much of a prefix of `from` as `buf` has room for, and answers how much.
+fn copy_prefix(from: &[u8], buf: &mut [u8]) -> usize
     ensures amount { result ≡ min (length buf.old) (length from.now) }
-    ensures front { take result buf.new ≡ take result from.now }
+    ensures prefix { take result buf.new ≡ take result from.now }
 {
     let n = buf.len().min(from.len());
     buf[..n].copy_from_slice(&from[..n]);

@@ -1,4 +1,4 @@
--- What was appended so far is the front of the piece before the rest.
+-- What was appended so far is the prefix of the piece before the rest.
 use Rattle.std.proofs.Common.{◌≡◌, ℕ, ◌≤◌, List, ◌++◌, length}
 use Rattle.std.specs.Io.KnownBytes.{Appends}
 use Rattle.lv_base.proofs.sink.write_all.Given as goal

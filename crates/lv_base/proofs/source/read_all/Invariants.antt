@@ -1,4 +1,4 @@
--- What came so far is the front of what was left, and the measure is how far it is below the limit.
+-- What came so far is the prefix of what was left, and the measure is how far it is below the limit.
 use Rattle.std.proofs.Common.{◌≤◌, vec_len, ◌-◌}
 use Rattle.lv_base.specs.Whole.{Takes}
 use Rattle.lv_base.proofs.source.read_all.Given as goal
