@@ -7,8 +7,6 @@ mod lexer;
 mod mark;
 mod number;
 mod quoted;
-#[cfg(test)]
-mod tests;
 mod theorems;
 mod token;
 mod word;
