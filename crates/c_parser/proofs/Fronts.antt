@@ -7,7 +7,7 @@ use Rattle.c_tokens.specs.declared.token.Kind.TheVariants.{Word, Name, Number, T
 use Rattle.c_tokens.specs.declared.token.Mark.{Mark as MarkName}
 use Rattle.c_tokens.specs.declared.token.Mark.TheVariants as mark
 use Rattle.c_tree.specs.declared.expression.Declarator.{Declarator}
-use Rattle.c_tree.specs.declared.expression.Expr.{Expr}
+use Rattle.c_tree.specs.declared.statement.FullExpr.{FullExpr}
 use Rattle.c_tree.specs.declared.statement.Block.{Block}
 use Rattle.c_tree.specs.declared.statement.Init.{Init}
 use Rattle.c_tree.specs.declared.statement.Stmt.{Stmt}
@@ -234,12 +234,12 @@ expression_is_statement names (Number n) b = b
 expression_is_statement names (Text bytes) b = b
 expression_is_statement names (Mark m) b = mark_expression_statement m b
 
-option_begins : {names : List (List ℕ)} {h : ℕ} {os : Kinds} {o : Option Expr} → OptionReads names h os o → Begins (CanBeginStatement names) (os ++ Mark mark.Semicolon ∷ [])
+option_begins : {names : List (List ℕ)} {h : ℕ} {os : Kinds} {o : Option FullExpr} → OptionReads names h os o → Begins (CanBeginStatement names) (os ++ Mark mark.Semicolon ∷ [])
 option_begins {names} (OptionReads.nothing h os o hi is oi) = Begins-same (CanBeginStatement names) {us = Mark mark.Semicolon ∷ []} (rw is refl) refl
 option_begins {names} {os = os} (OptionReads.some h ts o e oi read) = Begins-append (CanBeginStatement names) os _ (begins_either _ (CanBeginStatement names) os (expression_is_statement names) (ExprReads-begins read))
 
 block_begins : {names : List (List ℕ)} {h : ℕ} {ts : Kinds} {b : Block} → BlockReads names h ts b → Begins (CanBeginStatement names) ts
-block_begins {names} (BlockReads.braces h ts b parts ps is bi read) = Begins-same (CanBeginStatement names) is refl
+block_begins {names} (BlockReads.braces h ts b items ps is bi read) = Begins-same (CanBeginStatement names) is refl
 
 pub StmtReads-begins : {names : List (List ℕ)} {closed : Bool} {h : ℕ} {ts : Kinds} {s : Stmt} → StmtReads names closed h ts s → Begins (CanBeginStatement names) ts
 StmtReads-begins {names} (StmtReads.block closed h ts s b hb ci hi si read) = block_begins read
@@ -265,20 +265,20 @@ statement_no_spec names (Number n ∷ ks) b = refl
 statement_no_spec names (Text bytes ∷ ks) b = refl
 statement_no_spec names (Mark m ∷ ks) b = refl
 
--- a closing brace comes, or a part of a block
-abbrev pub CanFollowPart : List (List ℕ) → Kind → Type 0
-CanFollowPart names k = (CanBeginStatement names k ⊎ CanBeginSpec names k) ⊎ (k ≡ Mark mark.RightBrace)
+-- a closing brace comes, or an item of a block
+abbrev pub CanFollowBlockItem : List (List ℕ) → Kind → Type 0
+CanFollowBlockItem names k = (CanBeginStatement names k ⊎ CanBeginSpec names k) ⊎ (k ≡ Mark mark.RightBrace)
 
-pub part_no_brace : (names : List (List ℕ)) (ts : Kinds) → Begins (λ k. CanBeginStatement names k ⊎ CanBeginSpec names k) ts → Lacks mark.RightBrace ts
-part_no_brace names [] b = refl
-part_no_brace names (Word w ∷ ks) b = refl
-part_no_brace names (Name x ∷ ks) b = refl
-part_no_brace names (Number n ∷ ks) b = refl
-part_no_brace names (Text bytes ∷ ks) b = refl
-part_no_brace names (Mark m ∷ ks) (inl b) = other_mark mark_begins_statement mark.RightBrace m refl b
-part_no_brace names (Mark m ∷ ks) (inr b) = absurd b
+pub block_item_no_brace : (names : List (List ℕ)) (ts : Kinds) → Begins (λ k. CanBeginStatement names k ⊎ CanBeginSpec names k) ts → Lacks mark.RightBrace ts
+block_item_no_brace names [] b = refl
+block_item_no_brace names (Word w ∷ ks) b = refl
+block_item_no_brace names (Name x ∷ ks) b = refl
+block_item_no_brace names (Number n ∷ ks) b = refl
+block_item_no_brace names (Text bytes ∷ ks) b = refl
+block_item_no_brace names (Mark m ∷ ks) (inl b) = other_mark mark_begins_statement mark.RightBrace m refl b
+block_item_no_brace names (Mark m ∷ ks) (inr b) = absurd b
 
-pub no_else : (names : List (List ℕ)) (ts : Kinds) → Begins (CanFollowPart names) ts → sees_word word.Else ts ≡ false
+pub no_else : (names : List (List ℕ)) (ts : Kinds) → Begins (CanFollowBlockItem names) ts → sees_word word.Else ts ≡ false
 no_else names [] b = refl
 no_else names (Word w ∷ ks) (inl (inl b)) = other_word word_begins_statement word.Else w refl b
 no_else names (Word w ∷ ks) (inl (inr b)) = other_word word_begins_spec word.Else w refl b

@@ -2,7 +2,6 @@ mod Steps
 mod Fronts
 mod SoundDecls
 mod SoundStmts
-mod DeclaredNames
 mod SoundItems
 mod TakenDecls
 mod TakenStmts

@@ -4,18 +4,18 @@ use Rattle.c_tokens.specs.declared.token.Kind.TheVariants.{Mark}
 use Rattle.c_tokens.specs.declared.token.Mark.{Mark as MarkName}
 use Rattle.c_tokens.specs.declared.token.Mark.TheVariants as mark
 use Rattle.c_tree.specs.declared.expression.Declarator.{Declarator}
-use Rattle.c_tree.specs.declared.expression.Expr.{Expr}
 use Rattle.c_tree.specs.declared.expression.Spec.{Spec}
 use Rattle.c_tree.specs.declared.statement.Decl.{Decl}
+use Rattle.c_tree.specs.declared.statement.FullExpr.{FullExpr}
 use Rattle.c_tree.specs.declared.statement.Init.{Init}
 use Rattle.c_tree.specs.declared.statement.InitDeclarator.{InitDeclarator}
 use Rattle.c_tree.specs.Marks.{Kinds, wrapped, assign_level}
 use Rattle.c_tree.specs.Grammar.{SpecReads, DeclaratorReads, ExprReads}
-use Rattle.c_tree.specs.Statements.{InitReads, InitsRead, InitDeclaratorReads, InitDeclaratorListReads, InitDeclaratorsRead, DeclReads, OptionReads, FirstReads}
+use Rattle.c_tree.specs.Statements.{InitReads, InitsRead, InitDeclaratorReads, InitDeclaratorListReads, InitDeclaratorsRead, DeclReads, OptionReads, ForInitReads}
 use Rattle.c_expr.specs.Parser.{Parser, Tall}
 use Rattle.c_expr.specs.Readers.{Readers, begins_spec}
 use Rattle.c_expr.specs.Laws.{ReadsOnly, AreSound}
-use Rattle.c_parser.specs.Readers.{option_to, for_tests, condition, inits_from, braces, init_over, with_init, declared_from, declared, decl_of, decl, for_first}
+use Rattle.c_parser.specs.Readers.{full_expr, option_to, for_tests, condition, inits_from, braces, init_over, with_init, declared_from, declared, decl_of, decl, for_init}
 use Rattle.c_parser.proofs.Steps.{tall_answered, answer, tested, eaten, expected}
 
 -- ---- what was read, and how deep it is
@@ -48,15 +48,20 @@ all_read {depth = depth} {R} {all = all} a =
 module _ (names : List (List ℕ)) (depth : ℕ) (r : Readers) (sound : AreSound names depth r) where
   -- ---- options and conditions
 
-  pub option_sound : (m : MarkName) (ts : Kinds) (o : Tall (Option Expr)) (rest : Kinds) → option_to names r m ts ≡ Some (o, rest) → Read depth (λ h ks o. OptionReads names h ks o) ts o (Mark m ∷ rest)
+  full_expr_sound : ReadsOnly (full_expr names r) depth (λ h ks e. ExprReads names assign_level h ks e.expr)
+  unfolding full_expr
+  full_expr_sound ts e h rest is = tall_answered (r.expr assign_level ts) _ _ is (λ a ha ks read last. let x = sound.expr assign_level ts a ha ks read in
+      answer (λ e ks. Read depth (λ h ks e. ExprReads names assign_level h ks e.expr) ts e ks) last (x.0, x.1, x.2, x.3))
+
+  pub option_sound : (m : MarkName) (ts : Kinds) (o : Tall (Option FullExpr)) (rest : Kinds) → option_to names r m ts ≡ Some (o, rest) → Read depth (λ h ks o. OptionReads names h ks o) ts o (Mark m ∷ rest)
   unfolding option_to
   option_sound m ts o rest is = eaten m ts _ _ _ is
       (λ ks split last. answer (λ o ks. Read depth (λ h ks o. OptionReads names h ks o) ts o (Mark m ∷ ks)) last ([], split, omega arith, OptionReads.nothing _ _ _ refl refl refl))
-      (λ none more. tall_answered (r.expr assign_level ts) _ _ more (λ e h k read next. expected m k _ _ next (λ ks split last. let x = sound.expr assign_level ts e h k read in
-      answer (λ o ks. Read depth (λ h ks o. OptionReads names h ks o) ts o (Mark m ∷ ks)) last (x.0, x.1 ∙ ap (λ k. x.0 ++ k) split, x.2, OptionReads.some _ _ _ e refl x.3))))
+      (λ none more. tall_answered (full_expr names r ts) _ _ more (λ e h k read next. expected m k _ _ next (λ ks split last. let x = full_expr_sound ts e h k read in
+      answer (λ o ks. Read depth (λ h ks o. OptionReads names h ks o) ts o (Mark m ∷ ks)) last (x.0, x.1 ∙ ap (λ k. x.0 ++ k) split, x.2, OptionReads.some _ _ _ e.expr refl x.3))))
 
   -- the tokens and the heights of both
-  pub for_tests_sound : (ts : Kinds) (c : Tall (Option Expr × Option Expr)) (rest : Kinds) → for_tests names r ts ≡ Some (c, rest) → (cs ss : Kinds) × (ts ≡ cs ++ Mark mark.Semicolon ∷ (ss ++ Mark mark.RightParenthesis ∷ rest))
+  pub for_tests_sound : (ts : Kinds) (c : Tall (Option FullExpr × Option FullExpr)) (rest : Kinds) → for_tests names r ts ≡ Some (c, rest) → (cs ss : Kinds) × (ts ≡ cs ++ Mark mark.Semicolon ∷ (ss ++ Mark mark.RightParenthesis ∷ rest))
       × (hs : ℕ × ℕ) × (c.1 ≤ depth) × (c.1 ≡ max hs.0 hs.1) × OptionReads names hs.0 cs c.0.0 × OptionReads names hs.1 ss c.0.1
   unfolding for_tests
   for_tests_sound ts c rest is = tall_answered (option_to names r mark.Semicolon ts) _ _ is (λ o ho k1 oread next. tall_answered (option_to names r mark.RightParenthesis k1) _ _ next (λ p hp k2 pread last.
@@ -65,11 +70,11 @@ module _ (names : List (List ℕ)) (depth : ℕ) (r : Readers) (sound : AreSound
       answer (λ c ks. (cs ss : Kinds) × (ts ≡ cs ++ Mark mark.Semicolon ∷ (ss ++ Mark mark.RightParenthesis ∷ ks)) × (hs : ℕ × ℕ) × (c.1 ≤ depth) × (c.1 ≡ max hs.0 hs.1) × OptionReads names hs.0 cs c.0.0 × OptionReads names hs.1 ss c.0.1) last
       (x.0, y.0, x.1 ∙ ap (λ k. x.0 ++ Mark mark.Semicolon ∷ k) y.1, (ho, hp), omega (arith, x.2, y.2), refl, x.3, y.3)))
 
-  pub condition_sound : (ts : Kinds) (c : Tall Expr) (rest : Kinds) → condition names r ts ≡ Some (c, rest) → (cs : Kinds) × (ts ≡ wrapped 1 cs ++ rest) × (c.1 ≤ depth) × ExprReads names assign_level c.1 cs c.0
+  pub condition_sound : (ts : Kinds) (c : Tall FullExpr) (rest : Kinds) → condition names r ts ≡ Some (c, rest) → (cs : Kinds) × (ts ≡ wrapped 1 cs ++ rest) × (c.1 ≤ depth) × ExprReads names assign_level c.1 cs c.0.expr
   unfolding condition
-  condition_sound ts c rest is = expected mark.LeftParenthesis ts _ _ is (λ k1 opens next. tall_answered (r.expr assign_level k1) _ _ next (λ e h k2 read more. expected mark.RightParenthesis k2 _ _ more (λ k3 closes last.
-      let x = sound.expr assign_level k1 e h k2 read in
-      answer (λ c ks. (cs : Kinds) × (ts ≡ wrapped 1 cs ++ ks) × (c.1 ≤ depth) × ExprReads names assign_level c.1 cs c.0) last (x.0, opens ∙ ap (λ k. Mark mark.LeftParenthesis ∷ k) (join x.0 (Mark mark.RightParenthesis ∷ []) _ x.1 closes), x.2, x.3))))
+  condition_sound ts c rest is = expected mark.LeftParenthesis ts _ _ is (λ k1 opens next. tall_answered (full_expr names r k1) _ _ next (λ e h k2 read more. expected mark.RightParenthesis k2 _ _ more (λ k3 closes last.
+      let x = full_expr_sound k1 e h k2 read in
+      answer (λ c ks. (cs : Kinds) × (ts ≡ wrapped 1 cs ++ ks) × (c.1 ≤ depth) × ExprReads names assign_level c.1 cs c.0.expr) last (x.0, opens ∙ ap (λ k. Mark mark.LeftParenthesis ∷ k) (join x.0 (Mark mark.RightParenthesis ∷ []) _ x.1 closes), x.2, x.3))))
 
   -- ---- initialisers
 
@@ -156,10 +161,10 @@ module _ (names : List (List ℕ)) (depth : ℕ) (r : Readers) (sound : AreSound
         let z = decl_of_sound hs s x.0 y.3.0 y.0 (d, hd) k2 (a, h) rest x.2 x.3 y.2 y.3.1 last in
         (x.0 ++ y.0 ++ z.0, join (x.0 ++ y.0) z.0 _ (join x.0 y.0 _ x.1 y.1) z.1, z.2, z.3))))
 
-    pub for_first_sound : ReadsOnly (for_first names r init) depth (λ h ts f. FirstReads names h ts f)
-    unfolding for_first
-    for_first_sound ts f h rest is = tested (begins_spec names ts) _ _ _ is
+    pub for_init_sound : ReadsOnly (for_init names r init) depth (λ h ts f. ForInitReads names h ts f)
+    unfolding for_init
+    for_init_sound ts f h rest is = tested (begins_spec names ts) _ _ _ is
         (λ spec more. tall_answered (decl names r init ts) _ _ more (λ a ha ks read last. let x = decl_sound ts a ha ks read in
-        answer (λ f ks. Read depth (λ h ts f. FirstReads names h ts f) ts f ks) last (x.0, x.1, x.2, FirstReads.declared _ _ _ a refl x.3)))
+        answer (λ f ks. Read depth (λ h ts f. ForInitReads names h ts f) ts f ks) last (x.0, x.1, x.2, ForInitReads.declared _ _ _ a refl x.3)))
         (λ none more. tall_answered (option_to names r mark.Semicolon ts) _ _ more (λ o ho ks read last. let x = option_sound mark.Semicolon ts (o, ho) ks read in
-        answer (λ f ks. Read depth (λ h ts f. FirstReads names h ts f) ts f ks) last (x.0 ++ Mark mark.Semicolon ∷ [], x.1 ∙ sym (append_assoc x.0 _ ks), x.2, FirstReads.computed _ _ _ o x.0 refl refl x.3)))
+        answer (λ f ks. Read depth (λ h ts f. ForInitReads names h ts f) ts f ks) last (x.0 ++ Mark mark.Semicolon ∷ [], x.1 ∙ sym (append_assoc x.0 _ ks), x.2, ForInitReads.computed _ _ _ o x.0 refl refl x.3)))

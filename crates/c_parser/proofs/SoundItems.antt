@@ -1,5 +1,5 @@
 -- What the readers of items answer is of the grammar, at every depth.
-use Rattle.std.proofs.Common.{◌≡◌, ℕ, zero, suc, ◌≤◌, max, true, List, [], ◌∷◌, ◌++◌, Some, refl, sym, ap, subst, ◌∙◌, arith, length, append_assoc}
+use Rattle.std.proofs.Common.{◌≡◌, ℕ, zero, suc, ◌≤◌, max, true, List, [], ◌∷◌, ◌++◌, map, Some, refl, sym, ap, subst, ◌∙◌, arith, length, append_assoc}
 use Rattle.c_tokens.specs.declared.token.Keyword.TheVariants as word
 use Rattle.c_tokens.specs.declared.token.Kind.TheVariants.{Word, Mark}
 use Rattle.c_tokens.specs.declared.token.Mark.TheVariants as mark
@@ -9,14 +9,15 @@ use Rattle.c_tree.specs.declared.statement.Init.{Init}
 use Rattle.c_tree.specs.declared.statement.Item.{Item}
 use Rattle.c_tree.specs.declared.statement.Stmt.{Stmt}
 use Rattle.c_tree.specs.Marks.{Kinds}
+use Rattle.c_tree.specs.DeclaredName.{declared_name}
+use Rattle.c_tree.specs.Theorems.{DeclaratorsDeclareTheirNames}
 use Rattle.c_tree.specs.Grammar.{SpecReads, DeclaratorsRead, DeclaratorReads}
 use Rattle.c_tree.specs.Statements.{InitReads, ItemReads}
 use Rattle.c_expr.specs.Parser.{Parser, Tall, sees}
 use Rattle.c_expr.specs.Readers.{Readers, readers}
 use Rattle.c_expr.specs.Laws.{ReadsOnly, AreSound, ReadersAreSound}
-use Rattle.c_parser.specs.Readers.{first_name, decl_of, block, types_from, types, type_definition, item_of, untyped, item_over, init, stmt, item}
+use Rattle.c_parser.specs.Readers.{decl_of, block, types_from, types, type_definition, item_of, untyped, item_over, init, stmt, item}
 use Rattle.c_parser.proofs.Steps.{answered, tall_answered, answer, tested, eaten, expected, word_eaten}
-use Rattle.c_parser.proofs.DeclaredNames.{declares}
 use Rattle.c_parser.proofs.SoundDecls.{join, init_over_sound, decl_of_sound, bare_decl}
 use Rattle.c_parser.proofs.SoundStmts.{StmtsAreSound, block_sound, stmt_over_sound}
 
@@ -24,48 +25,43 @@ use Rattle.c_parser.proofs.SoundStmts.{StmtsAreSound, block_sound, stmt_over_sou
 abbrev pub ItemRead : List (List ℕ) → ℕ → Kinds → Item × List (List ℕ) → Kinds → Type 0
 ItemRead names depth ts i rest = (front : Kinds) × (ts ≡ front ++ rest) × (h : ℕ) × (h ≤ depth) × ItemReads names h i.1 front i.0
 
--- declarators, of which these and their names were found before
-abbrev TypesRead : List (List ℕ) → ℕ → List Declarator → List (List ℕ) → Kinds → List Declarator × List (List ℕ) → Kinds → Type 0
-TypesRead names depth found new ts all rest = (others : List Declarator) × (xs : List (List ℕ)) × (ho : ℕ) × (front : Kinds) × (all.0 ≡ found ++ others) × (all.1 ≡ new ++ xs) × (ts ≡ front ++ rest) × (ho ≤ depth) × DeclaratorsRead names ho xs front others
+-- declarators, of which these were found before, with the names that they declare
+abbrev TypesRead : List (List ℕ) → ℕ → List Declarator → Kinds → List Declarator → Kinds → Type 0
+TypesRead names depth found ts all rest = (others : List Declarator) × (ho : ℕ) × (front : Kinds) × (all ≡ found ++ others)
+    × (ts ≡ front ++ rest) × (ho ≤ depth) × DeclaratorsRead names ho (map declared_name others) front others
 
-module _ (names : List (List ℕ)) (depth : ℕ) (r : Readers) (sound : AreSound names depth r) where
-  -- the first name is the declared one
-  first_declared : {h : ℕ} {x : List ℕ} {d : Declarator} (ts front rest : Kinds) → ts ≡ front ++ rest → DeclaratorReads names h x front d → first_name ts ≡ x
-  first_declared ts front rest is read = ap first_name is ∙ declares read rest
-
+module _ (named : DeclaratorsDeclareTheirNames) (names : List (List ℕ)) (depth : ℕ) (r : Readers) (sound : AreSound names depth r) where
   module _ (init : Parser (Tall Init)) (init_sound : ReadsOnly init depth (λ h ts i. InitReads names h ts i)) where
     module _ (inner : Parser (Tall Stmt)) (inner_sound : StmtsAreSound names depth inner) where
-      types_sound : (n : ℕ) (found : List Declarator) (new : List (List ℕ)) (ts : Kinds) (all : List Declarator × List (List ℕ)) (rest : Kinds) → types_from names r init inner n found new ts ≡ Some (all, rest) → TypesRead names depth found new ts all rest
+      types_sound : (n : ℕ) (found : List Declarator) (ts : Kinds) (all : List Declarator) (rest : Kinds) → types_from names r init inner n found ts ≡ Some (all, rest) → TypesRead names depth found ts all rest
       unfolding types_from
-      types_sound zero found new ts all rest is = absurd (cc)
-      types_sound (suc n) found new ts all rest is = tall_answered (r.declarator ts) _ _ is (λ d h k1 read next.
+      types_sound zero found ts all rest is = absurd (cc)
+      types_sound (suc n) found ts all rest is = tall_answered (r.declarator ts) _ _ is (λ d h k1 read next.
           let x = sound.declarator ts d h k1 read in
-          let named = first_declared ts x.0 k1 x.1 x.3.1 in
+          let name : declared_name d ≡ x.3.0 = named names h x.3.0 x.0 d x.3.1 in
           eaten mark.Comma k1 _ _ _ next
-          (λ k2 comma more. let a = types_sound n (found ++ d ∷ []) (new ++ first_name ts ∷ []) k2 all rest more in (
+          (λ k2 comma more. let a = types_sound n (found ++ d ∷ []) k2 all rest more in (
             d ∷ a.0,
-            x.3.0 ∷ a.1,
-            max h a.2,
-            x.0 ++ Mark mark.Comma ∷ a.3,
-            a.4 ∙ append_assoc found (d ∷ []) a.0,
-            a.5 ∙ append_assoc new (first_name ts ∷ []) a.1 ∙ ap (λ y. new ++ y ∷ a.1) named,
-            join x.0 (Mark mark.Comma ∷ a.3) _ x.1 (comma ∙ ap (λ k. Mark mark.Comma ∷ k) a.6),
-            omega (arith, x.2, a.7),
-            DeclaratorsRead.more_declarators _ _ _ _ d x.3.0 a.0 a.1 h a.2 x.0 a.3 refl refl refl refl x.3.1 a.8,
+            max h a.1,
+            x.0 ++ Mark mark.Comma ∷ a.2,
+            a.3 ∙ append_assoc found (d ∷ []) a.0,
+            join x.0 (Mark mark.Comma ∷ a.2) _ x.1 (comma ∙ ap (λ k. Mark mark.Comma ∷ k) a.4),
+            omega (arith, x.2, a.5),
+            DeclaratorsRead.more_declarators _ _ _ _ d x.3.0 a.0 (map declared_name a.0) h a.1 x.0 a.2 refl (ap (λ y. y ∷ map declared_name a.0) name) refl refl x.3.1 a.6,
           ))
-          (λ none last. answer (λ all ks. TypesRead names depth found new ts all ks) last
-          (d ∷ [], x.3.0 ∷ [], h, x.0, refl, ap (λ y. new ++ y ∷ []) named, x.1, x.2, DeclaratorsRead.one_declarator _ _ _ _ d x.3.0 refl refl x.3.1)))
+          (λ none last. answer (λ all ks. TypesRead names depth found ts all ks) last
+          (d ∷ [], h, x.0, refl, x.1, x.2, DeclaratorsRead.one_declarator _ _ _ _ d x.3.0 (ap (λ y. y ∷ []) name) refl x.3.1)))
 
       typedef_sound : (ts : Kinds) (i : Item × List (List ℕ)) (rest : Kinds) → type_definition names r init inner ts ≡ Some (i, rest) → ItemRead names depth (Word word.Typedef ∷ ts) i rest
       unfolding type_definition types
       typedef_sound ts i rest is = tall_answered (r.spec true ts) _ _ is (λ s hs k1 sread next. let x = sound.spec true ts s hs k1 sread in
-          answered (types_from names r init inner (length k1) [] [] k1) _ _ next (λ ds k2 dread more. let a = types_sound (length k1) [] [] k1 ds k2 dread in
+          answered (types_from names r init inner (length k1) [] k1) _ _ next (λ ds k2 dread more. let a = types_sound (length k1) [] k1 ds k2 dread in
           expected mark.Semicolon k2 _ _ more (λ k3 ends last. answer (λ i ks. ItemRead names depth (Word word.Typedef ∷ ts) i ks) last (
-            Word word.Typedef ∷ x.0 ++ a.3 ++ Mark mark.Semicolon ∷ [],
-            ap (λ k. Word word.Typedef ∷ k) (join (x.0 ++ a.3) (Mark mark.Semicolon ∷ []) _ (join x.0 a.3 _ x.1 a.6) ends),
-            max hs a.2,
-            omega (arith, x.2, a.7),
-            ItemReads.type_definition _ _ _ _ s ds.0 hs a.2 x.0 a.3 refl refl refl x.3 (subst (λ ys. DeclaratorsRead names a.2 ys a.3 ds.0) (sym a.5) (subst (λ es. DeclaratorsRead names a.2 a.1 a.3 es) (sym a.4) a.8)),
+            Word word.Typedef ∷ x.0 ++ a.2 ++ Mark mark.Semicolon ∷ [],
+            ap (λ k. Word word.Typedef ∷ k) (join (x.0 ++ a.2) (Mark mark.Semicolon ∷ []) _ (join x.0 a.2 _ x.1 a.4) ends),
+            max hs a.1,
+            omega (arith, x.2, a.5),
+            ItemReads.type_definition _ _ _ _ s ds hs a.1 x.0 a.2 refl refl refl x.3 (subst (λ es. DeclaratorsRead names a.1 (map declared_name es) a.2 es) (sym a.3) a.6),
           ))))
 
       -- behind the spec and the first declarator
@@ -98,7 +94,7 @@ module _ (names : List (List ℕ)) (depth : ℕ) (r : Readers) (sound : AreSound
 
 -- ---- at every depth
 
-module _ (sound : ReadersAreSound) (names : List (List ℕ)) where
+module _ (sound : ReadersAreSound) (named : DeclaratorsDeclareTheirNames) (names : List (List ℕ)) where
   pub init_sound : (depth : ℕ) → ReadsOnly (init names depth) depth (λ h ts i. InitReads names h ts i)
   unfolding init
   init_sound zero ts i h rest is = absurd (cc)
@@ -111,4 +107,4 @@ module _ (sound : ReadersAreSound) (names : List (List ℕ)) where
 
   pub item_sound : (depth : ℕ) (ts : Kinds) (i : Item × List (List ℕ)) (rest : Kinds) → item names depth ts ≡ Some (i, rest) → ItemRead names depth ts i rest
   unfolding item
-  item_sound depth ts i rest is = item_over_sound names depth (readers names depth) (sound names depth) (init names depth) (init_sound depth) (stmt names depth) (stmt_sound depth) ts i rest is
+  item_sound depth ts i rest is = item_over_sound named names depth (readers names depth) (sound names depth) (init names depth) (init_sound depth) (stmt names depth) (stmt_sound depth) ts i rest is

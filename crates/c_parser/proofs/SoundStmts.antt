@@ -10,14 +10,14 @@ use Rattle.c_tree.specs.declared.statement.Init.{Init}
 use Rattle.c_tree.specs.declared.statement.Stmt.{Stmt}
 use Rattle.c_tree.specs.declared.statement.Stmt.TheVariants as stmt_as
 use Rattle.c_tree.specs.Marks.{Kinds, wrapped}
-use Rattle.c_tree.specs.Statements.{InitReads, StmtReads, BlockReads, PartsRead, PartReads}
+use Rattle.c_tree.specs.Statements.{InitReads, StmtReads, BlockReads, BlockItemsRead, BlockItemReads}
 use Rattle.c_expr.specs.Parser.{Parser, Tall}
 use Rattle.c_expr.specs.Readers.{Readers, begins_spec}
 use Rattle.c_expr.specs.Laws.{ReadsOnly, AreSound}
 use Rattle.c_parser.specs.declared.form.Form.TheVariants as form_as
-use Rattle.c_parser.specs.Readers.{sees_word, form_of, ended, option_to, for_tests, condition, decl, for_first, part, parts_from, parts, block, if_behind, while_behind, do_behind, for_behind, return_behind, computes, stmt_by, stmt_over}
+use Rattle.c_parser.specs.Readers.{sees_word, form_of, ended, option_to, for_tests, condition, decl, for_init, block_item, block_items_from, block_items, block, if_behind, while_behind, do_behind, for_behind, return_behind, computes, stmt_by, stmt_over}
 use Rattle.c_parser.proofs.Steps.{tall_answered, answer, tested, eaten, expected, word_eaten, word_expected, same_word_is}
-use Rattle.c_parser.proofs.SoundDecls.{Read, AllRead, join, one_more, all_read, option_sound, for_tests_sound, condition_sound, decl_sound, for_first_sound}
+use Rattle.c_parser.proofs.SoundDecls.{Read, AllRead, join, one_more, all_read, option_sound, for_tests_sound, condition_sound, decl_sound, for_init_sound}
 
 -- a statement stands in front of this rest, and where it may take an `else` none is left
 pub record StmtRead (names : List (List ℕ)) (depth : ℕ) (ts : Kinds) (s : Tall Stmt) (rest : Kinds) : Type 0 where
@@ -39,30 +39,30 @@ closed_before_else false ts ks taken is = let seen : sees_word word.Else ts ≡ 
 module _ (names : List (List ℕ)) (depth : ℕ) (r : Readers) (sound : AreSound names depth r) where
   module _ (init : Parser (Tall Init)) (init_sound : ReadsOnly init depth (λ h ts i. InitReads names h ts i)) where
     module _ (inner : Parser (Tall Stmt)) (inner_sound : StmtsAreSound names depth inner) where
-      part_sound : ReadsOnly (part names r init inner) depth (λ h ts p. PartReads names h ts p)
-      unfolding part
-      part_sound ts p h rest is = tested (begins_spec names ts) _ _ _ is
+      block_item_sound : ReadsOnly (block_item names r init inner) depth (λ h ts p. BlockItemReads names h ts p)
+      unfolding block_item
+      block_item_sound ts p h rest is = tested (begins_spec names ts) _ _ _ is
           (λ spec more. tall_answered (decl names r init ts) _ _ more (λ a ha ks read last. let x = decl_sound names depth r sound init init_sound ts a ha ks read in
-          answer (λ p ks. Read depth (λ h ts p. PartReads names h ts p) ts p ks) last (x.0, x.1, x.2, PartReads.declaration _ _ _ a refl x.3)))
+          answer (λ p ks. Read depth (λ h ts p. BlockItemReads names h ts p) ts p ks) last (x.0, x.1, x.2, BlockItemReads.declaration _ _ _ a refl x.3)))
           (λ none more. tall_answered (inner ts) _ _ more (λ s hs ks read last. let x = inner_sound ts (s, hs) ks read in
-          answer (λ p ks. Read depth (λ h ts p. PartReads names h ts p) ts p ks) last (x.front, x.split, x.deep, PartReads.statement _ _ _ s x.closed refl x.read)))
+          answer (λ p ks. Read depth (λ h ts p. BlockItemReads names h ts p) ts p ks) last (x.front, x.split, x.deep, BlockItemReads.statement _ _ _ s x.closed refl x.read)))
 
-      parts_sound : (n : ℕ) (found : List BlockItem) (height : ℕ) (ts : Kinds) (all : Tall (List BlockItem)) (rest : Kinds) → parts_from names r init inner n found height ts ≡ Some (all, rest)
-          → AllRead depth (λ h ts ps. PartsRead names h ts ps) found height ts all (Mark mark.RightBrace ∷ rest)
-      unfolding parts_from
-      parts_sound zero found height ts all rest is = absurd (cc)
-      parts_sound (suc n) found height ts all rest is = eaten mark.RightBrace ts _ _ _ is
-          (λ ks ends last. answer (λ all ks. AllRead depth (λ h ts ps. PartsRead names h ts ps) found height ts all (Mark mark.RightBrace ∷ ks)) last
-          ([], 0, [], sym (append-nil found), omega arith, ends, omega arith, PartsRead.no_part _ _ _ refl refl refl))
-          (λ none more. tall_answered (part names r init inner ts) _ _ more (λ p h ks read others. let x = part_sound ts p h ks read in
+      block_items_sound : (n : ℕ) (found : List BlockItem) (height : ℕ) (ts : Kinds) (all : Tall (List BlockItem)) (rest : Kinds) → block_items_from names r init inner n found height ts ≡ Some (all, rest)
+          → AllRead depth (λ h ts ps. BlockItemsRead names h ts ps) found height ts all (Mark mark.RightBrace ∷ rest)
+      unfolding block_items_from
+      block_items_sound zero found height ts all rest is = absurd (cc)
+      block_items_sound (suc n) found height ts all rest is = eaten mark.RightBrace ts _ _ _ is
+          (λ ks ends last. answer (λ all ks. AllRead depth (λ h ts ps. BlockItemsRead names h ts ps) found height ts all (Mark mark.RightBrace ∷ ks)) last
+          ([], 0, [], sym (append-nil found), omega arith, ends, omega arith, BlockItemsRead.no_block_item _ _ _ refl refl refl))
+          (λ none more. tall_answered (block_item names r init inner ts) _ _ more (λ p h ks read others. let x = block_item_sound ts p h ks read in
           one_more found height p h x.0 ks x.1 x.2
-          (λ ho os others read. PartsRead.more_parts _ _ _ p others h ho x.0 os refl refl refl x.3 read)
-          (parts_sound n (found ++ p ∷ []) (max height h) ks all rest others)))
+          (λ ho os others read. BlockItemsRead.more_block_items _ _ _ p others h ho x.0 os refl refl refl x.3 read)
+          (block_items_sound n (found ++ p ∷ []) (max height h) ks all rest others)))
 
       pub block_sound : ReadsOnly (block names r init inner) depth (λ h ts b. BlockReads names h ts b)
-      unfolding block parts
-      block_sound ts b h rest is = expected mark.LeftBrace ts _ _ is (λ k1 opens next. tall_answered (parts_from names r init inner (length k1) [] 0 k1) _ _ next (λ ps hp k2 read last.
-          let x = all_read (parts_sound (length k1) [] 0 k1 (ps, hp) k2 read) in
+      unfolding block block_items
+      block_sound ts b h rest is = expected mark.LeftBrace ts _ _ is (λ k1 opens next. tall_answered (block_items_from names r init inner (length k1) [] 0 k1) _ _ next (λ ps hp k2 read last.
+          let x = all_read (block_items_sound (length k1) [] 0 k1 (ps, hp) k2 read) in
           answer (λ b ks. Read depth (λ h ts b. BlockReads names h ts b) ts b ks) last
           (Mark mark.LeftBrace ∷ x.0 ++ Mark mark.RightBrace ∷ [], opens ∙ ap (λ k. Mark mark.LeftBrace ∷ k) (x.1 ∙ sym (append_assoc x.0 _ k2)), x.2, BlockReads.braces _ _ _ ps x.0 refl refl x.3)))
 
@@ -80,7 +80,7 @@ module _ (names : List (List ℕ)) (depth : ℕ) (r : Readers) (sound : AreSound
             split = ap (λ k. Word word.If ∷ k) (join (wrapped 1 x.0 ++ y.front) (Word word.Else ∷ z.front) _ (join (wrapped 1 x.0) y.front _ x.1 y.split) (comes ∙ ap (λ k. Word word.Else ∷ k) z.split));
             deep = omega (arith, x.2, y.deep, z.deep);
             closed = z.closed;
-            read = StmtReads.if_else _ _ _ _ c t o hc ht ho x.0 y.front z.front refl refl refl x.3 (subst (λ b. StmtReads names b ht y.front t) (closed_before_else y.closed k2 k3 y.else_taken comes) y.read) z.read;
+            read = StmtReads.if_else _ _ _ _ c.expr t o hc ht ho x.0 y.front z.front refl refl refl x.3 (subst (λ b. StmtReads names b ht y.front t) (closed_before_else y.closed k2 k3 y.else_taken comes) y.read) z.read;
             else_taken = z.else_taken;
           })))
           (λ none last. answer (λ s ks. StmtRead names (suc depth) (Word word.If ∷ ts) s ks) last (record {
@@ -88,7 +88,7 @@ module _ (names : List (List ℕ)) (depth : ℕ) (r : Readers) (sound : AreSound
             split = ap (λ k. Word word.If ∷ k) (join (wrapped 1 x.0) y.front _ x.1 y.split);
             deep = omega (arith, x.2, y.deep);
             closed = false;
-            read = StmtReads.if_alone _ _ _ _ c t y.closed hc ht x.0 y.front refl refl refl refl x.3 y.read;
+            read = StmtReads.if_alone _ _ _ _ c.expr t y.closed hc ht x.0 y.front refl refl refl refl x.3 y.read;
             else_taken = λ _. none;
           }))))
 
@@ -102,7 +102,7 @@ module _ (names : List (List ℕ)) (depth : ℕ) (r : Readers) (sound : AreSound
             split = ap (λ k. Word word.While ∷ k) (join (wrapped 1 x.0) y.front _ x.1 y.split);
             deep = omega (arith, x.2, y.deep);
             closed = y.closed;
-            read = StmtReads.while _ _ _ _ c b hc hb x.0 y.front refl refl refl x.3 y.read;
+            read = StmtReads.while _ _ _ _ c.expr b hc hb x.0 y.front refl refl refl x.3 y.read;
             else_taken = y.else_taken;
           })))
 
@@ -116,14 +116,14 @@ module _ (names : List (List ℕ)) (depth : ℕ) (r : Readers) (sound : AreSound
             split = ap (λ k. Word word.Do ∷ k) (join (y.front ++ Word word.While ∷ wrapped 1 x.0) (Mark mark.Semicolon ∷ []) _ (join y.front (Word word.While ∷ wrapped 1 x.0) _ y.split (comes ∙ ap (λ k. Word word.While ∷ k) x.1)) ends);
             deep = omega (arith, x.2, y.deep);
             closed = true;
-            read = StmtReads.do_while _ _ _ _ b c y.closed hb hc y.front x.0 refl refl refl refl y.read x.3;
+            read = StmtReads.do_while _ _ _ _ b c.expr y.closed hb hc y.front x.0 refl refl refl refl y.read x.3;
             else_taken = λ is. cc;
           })))))
 
       for_sound : (ts : Kinds) (s : Tall Stmt) (rest : Kinds) → for_behind names r init inner ts ≡ Some (s, rest) → StmtRead names (suc depth) (Word word.For ∷ ts) s rest
       unfolding for_behind
-      for_sound ts s rest is = expected mark.LeftParenthesis ts _ _ is (λ k1 opens next. tall_answered (for_first names r init k1) _ _ next (λ f hf k2 fread more. tall_answered (for_tests names r k2) _ _ more (λ c hc k3 cread third. tall_answered (inner k3) _ _ third (λ b hb k4 bread last.
-          let w = for_first_sound names depth r sound init init_sound k1 f hf k2 fread in
+      for_sound ts s rest is = expected mark.LeftParenthesis ts _ _ is (λ k1 opens next. tall_answered (for_init names r init k1) _ _ next (λ f hf k2 fread more. tall_answered (for_tests names r k2) _ _ more (λ c hc k3 cread third. tall_answered (inner k3) _ _ third (λ b hb k4 bread last.
+          let w = for_init_sound names depth r sound init init_sound k1 f hf k2 fread in
           let x = for_tests_sound names depth r sound k2 (c, hc) k3 cread in
           let z = inner_sound k3 (b, hb) k4 bread in
           answer (λ s ks. StmtRead names (suc depth) (Word word.For ∷ ts) s ks) last (record {

@@ -6,6 +6,7 @@ use Rattle.c_tree.specs.declared.statement.Item.{Item}
 use Rattle.c_tree.specs.declared.statement.Unit.{Unit as Source}
 use Rattle.c_tree.specs.Marks.{Kinds, greatest_depth}
 use Rattle.c_tree.specs.Statements.{DeclReads, ItemReads, ItemsRead, SourceReads, IsSyntaxRefusal}
+use Rattle.c_tree.specs.Theorems.{DeclaratorsDeclareTheirNames}
 use Rattle.c_expr.specs.Parser.{Outcome}
 use Rattle.c_expr.specs.Laws.{ReadersAreSound, ReadersAreComplete}
 use Rattle.c_expr.proofs.Firsts.{SpecReads-begins}
@@ -32,13 +33,13 @@ item_some (ItemReads.definition h new ts i s d b x hs hd hb ss ds bs ni hh is ii
 pub one_answer : {A : Type 0} {x y : A × Kinds} → Some x ≡ Some y → (x.0 ≡ y.0) × (x.1 ≡ y.1)
 one_answer {x = x} {y} is = let same : x ≡ y = cc in (ap (λ p. p.0) same, ap (λ p. p.1) same)
 
-module _ (sound : ReadersAreSound) (complete : ReadersAreComplete) where
+module _ (sound : ReadersAreSound) (complete : ReadersAreComplete) (named : DeclaratorsDeclareTheirNames) where
   -- ---- items
 
   pub items_are_told_apart : ItemsAreToldApart
   items_are_told_apart names g h new more ts us rest others i j low high first second is =
-      let a = item_takes complete names greatest_depth low first rest in
-      let b = item_takes complete names greatest_depth high second others in
+      let a = item_takes complete named names greatest_depth low first rest in
+      let b = item_takes complete named names greatest_depth high second others in
       let e = one_answer (sym a ∙ ap (λ k. item names greatest_depth k) is ∙ b) in
       (ap (λ p. p.0) e.0, ap (λ p. p.1) e.0, append_cancel_right ts us others (ap (λ k. ts ++ k) (sym e.1) ∙ is))
 
@@ -47,11 +48,11 @@ module _ (sound : ReadersAreSound) (complete : ReadersAreComplete) where
   BeginsNoItem names ts = (h : ℕ) (new : List (List ℕ)) (its os : Kinds) (i : Item) → h ≤ greatest_depth → ts ≡ its ++ os → ItemReads names h new its i → ⊥
 
   no_item : (names : List (List ℕ)) (ts : Kinds) → item names greatest_depth ts ≡ None → BeginsNoItem names ts
-  no_item names ts none h new its os i low is read = let taken = item_takes complete names greatest_depth low read os in let same = ap (λ k. item names greatest_depth k) is in cc
+  no_item names ts none h new its os i low is read = let taken = item_takes complete named names greatest_depth low read os in let same = ap (λ k. item names greatest_depth k) is in cc
 
   no_answer_by : (names : List (List ℕ)) (ts : Kinds) (o : Outcome (Item × List (List ℕ))) → item names greatest_depth ts ≡ o → BeginsNoItem names ts → o ≡ None
   no_answer_by names ts None is none = refl
-  no_answer_by names ts (Some q) is none = let x = item_sound sound names greatest_depth ts q.0 q.1 is in absurd (none x.2 q.0.1 x.0 q.1 q.0.0 x.3 x.1 x.4)
+  no_answer_by names ts (Some q) is none = let x = item_sound sound named names greatest_depth ts q.0 q.1 is in absurd (none x.2 q.0.1 x.0 q.1 q.0.0 x.3 x.1 x.4)
 
   no_answer : (names : List (List ℕ)) (ts : Kinds) → BeginsNoItem names ts → item names greatest_depth ts ≡ None
   no_answer names ts none = no_answer_by names ts (item names greatest_depth ts) refl none
@@ -71,7 +72,7 @@ module _ (sound : ReadersAreSound) (complete : ReadersAreComplete) where
       let some = item_some read in
       let long = ap (λ k. length k) is in
       let both = length-append its os in
-      rw (is, ii, append_assoc its os rest, item_takes complete names greatest_depth low read (os ++ rest)) (items_taken behind rest ends n (omega arith) (found ++ i ∷ []) ∙ rw (append_assoc found (i ∷ []) others) refl)
+      rw (is, ii, append_assoc its os rest, item_takes complete named names greatest_depth low read (os ++ rest)) (items_taken behind rest ends n (omega arith) (found ++ i ∷ []) ∙ rw (append_assoc found (i ∷ []) others) refl)
 
   source_taken : {ts : Kinds} {items : List Item} {after : List (List ℕ)} → ItemsRead [] ts items after → (rest : Kinds) → item after greatest_depth rest ≡ None → source_of (ts ++ rest) ≡ (items, rest)
   unfolding source_of
@@ -115,7 +116,7 @@ module _ (sound : ReadersAreSound) (complete : ReadersAreComplete) where
       → (o : Outcome (Item × List (List ℕ))) → item names greatest_depth ts ≡ o → Looped names found ts (behind_item found names ts (items_from n) o)
   looped_by n next found names ts few None is = looped_none found ts is
   looped_by n next found names ts few (Some q) is =
-      let x = item_sound sound names greatest_depth ts q.0 q.1 is in
+      let x = item_sound sound named names greatest_depth ts q.0 q.1 is in
       let some = item_some x.4 in
       let long = ap (λ k. length k) x.1 in
       let both = length-append x.0 q.1 in

@@ -8,16 +8,18 @@ use Rattle.c_tree.specs.declared.expression.Expr.{Expr}
 use Rattle.c_tree.specs.declared.expression.Spec.{Spec}
 use Rattle.c_tree.specs.declared.statement.Decl.{Decl}
 use Rattle.c_tree.specs.declared.statement.ForInit.{ForInit}
+use Rattle.c_tree.specs.declared.statement.FullExpr.{FullExpr}
 use Rattle.c_tree.specs.declared.statement.Init.{Init}
 use Rattle.c_tree.specs.declared.statement.InitDeclarator.{InitDeclarator}
 use Rattle.c_tree.specs.Marks.{Kinds, wrapped, assign_level}
+use Rattle.c_tree.specs.Trees.{full as full_of}
 use Rattle.c_tree.specs.Grammar.{SpecReads, DeclaratorReads, ExprReads}
-use Rattle.c_tree.specs.Statements.{InitReads, InitsRead, InitDeclaratorReads, InitDeclaratorListReads, InitDeclaratorsRead, DeclReads, OptionReads, FirstReads}
+use Rattle.c_tree.specs.Statements.{InitReads, InitsRead, InitDeclaratorReads, InitDeclaratorListReads, InitDeclaratorsRead, DeclReads, OptionReads, ForInitReads}
 use Rattle.c_expr.specs.Parser.{Parser, Outcome, Tall, same_mark, behind}
 use Rattle.c_expr.specs.Readers.{Readers, begins_spec, continuation_of}
 use Rattle.c_expr.specs.Laws.{AreComplete, Takes, Stops, Lacks}
 use Rattle.c_expr.proofs.Firsts.{Begins, Begins-append, Begins-same, mark_begins_expression, CanBeginSpec, ExprReads-begins, SpecReads-begins}
-use Rattle.c_parser.specs.Readers.{option_to, for_tests, condition, inits_from, braces, init_over, with_init, declared_from, declared, decl_of, decl, for_first}
+use Rattle.c_parser.specs.Readers.{full_expr, option_to, for_tests, condition, inits_from, braces, init_over, with_init, declared_from, declared, decl_of, decl, for_init}
 use Rattle.c_parser.proofs.Steps.{then_takes, if_yes, if_no, eats, leaves, expects}
 use Rattle.c_parser.proofs.Fronts.{Ends, comma_ends, semicolon_ends, ends_goes_on, ends_stops, ends_no_assign, semicolon_no_comma, semicolon_no_brace, stops, expression_lacks, expression_no_spec, begins_some, init_no_brace, InitsRead-begins, GoesOn, no_suffix, declarator_no_brace, declarator_no_semicolon, spec_begins}
 
@@ -39,23 +41,27 @@ module _ (names : List (List ℕ)) (depth : ℕ) (r : Readers) (complete : AreCo
   expression_takes : (h : ℕ) (ts : Kinds) (e : Expr) (m : MarkName) (rest : Kinds) → h ≤ depth → ExprReads names assign_level h ts e → continuation_of m ≡ None → r.expr assign_level (ts ++ Mark m ∷ rest) ≡ Some ((e, h), Mark m ∷ rest)
   expression_takes h ts e m rest deep read ends = complete.expr assign_level h ts e (omega arith) deep read (Mark m ∷ rest) (stops m ends rest)
 
-  pub option_takes : {h : ℕ} {ts : Kinds} {o : Option Expr} (m : MarkName) → mark_begins_expression m ≡ false → continuation_of m ≡ None → h ≤ depth → OptionReads names h ts o → (rest : Kinds) → option_to names r m (ts ++ Mark m ∷ rest) ≡ Some ((o, h), rest)
+  full_expr_takes : (h : ℕ) (ts : Kinds) (e : Expr) (m : MarkName) (rest : Kinds) → h ≤ depth → ExprReads names assign_level h ts e → continuation_of m ≡ None → full_expr names r (ts ++ Mark m ∷ rest) ≡ Some ((full_of e, h), Mark m ∷ rest)
+  unfolding full_expr
+  full_expr_takes h ts e m rest deep read ends = then_takes _ _ (e, h) (Mark m ∷ rest) _ (expression_takes h ts e m rest deep read ends) refl
+
+  pub option_takes : {h : ℕ} {ts : Kinds} {o : Option FullExpr} (m : MarkName) → mark_begins_expression m ≡ false → continuation_of m ≡ None → h ≤ depth → OptionReads names h ts o → (rest : Kinds) → option_to names r m (ts ++ Mark m ∷ rest) ≡ Some ((o, h), rest)
   unfolding option_to
   option_takes m begins ends deep (OptionReads.nothing h ts o hi is oi) rest = rw (is, hi, oi) (eats m rest _ _ _ refl)
   option_takes m begins ends deep (OptionReads.some h ts o e oi read) rest = rw oi (leaves m (ts ++ Mark m ∷ rest) _ _ _ (expression_lacks names m _ begins (Begins-append _ ts _ (ExprReads-begins read)))
-      (then_takes _ _ (e, h) (Mark m ∷ rest) _ (expression_takes h ts e m rest deep read ends) (expects m rest _ _ refl)))
+      (then_takes _ _ (full_of e, h) (Mark m ∷ rest) _ (full_expr_takes h ts e m rest deep read ends) (expects m rest _ _ refl)))
 
-  pub for_tests_take : {hc hs : ℕ} {cs ss : Kinds} {c p : Option Expr} → hc ≤ depth → hs ≤ depth → OptionReads names hc cs c → OptionReads names hs ss p → (rest : Kinds)
+  pub for_tests_take : {hc hs : ℕ} {cs ss : Kinds} {c p : Option FullExpr} → hc ≤ depth → hs ≤ depth → OptionReads names hc cs c → OptionReads names hs ss p → (rest : Kinds)
       → for_tests names r (cs ++ Mark mark.Semicolon ∷ (ss ++ Mark mark.RightParenthesis ∷ rest)) ≡ Some (((c, p), max hc hs), rest)
   unfolding for_tests
   for_tests_take {hc} {hs} {cs} {ss} {c} {p} dc ds test step rest =
       then_takes _ _ (c, hc) (ss ++ Mark mark.RightParenthesis ∷ rest) _ (option_takes mark.Semicolon refl refl dc test (ss ++ Mark mark.RightParenthesis ∷ rest))
       (then_takes _ _ (p, hs) rest _ (option_takes mark.RightParenthesis refl refl ds step rest) refl)
 
-  pub condition_takes : {h : ℕ} {cs : Kinds} {c : Expr} → h ≤ depth → ExprReads names assign_level h cs c → (rest : Kinds) → condition names r (wrapped 1 cs ++ rest) ≡ Some ((c, h), rest)
+  pub condition_takes : {h : ℕ} {cs : Kinds} {c : Expr} → h ≤ depth → ExprReads names assign_level h cs c → (rest : Kinds) → condition names r (wrapped 1 cs ++ rest) ≡ Some ((full_of c, h), rest)
   unfolding condition
   condition_takes {h} {cs} {c} deep read rest = expects mark.LeftParenthesis ((cs ++ Mark mark.RightParenthesis ∷ []) ++ rest) _ _ (rw (append_assoc cs (Mark mark.RightParenthesis ∷ []) rest)
-      (then_takes _ _ (c, h) (Mark mark.RightParenthesis ∷ rest) _ (expression_takes h cs c mark.RightParenthesis rest deep read refl) (expects mark.RightParenthesis rest _ _ refl)))
+      (then_takes _ _ (full_of c, h) (Mark mark.RightParenthesis ∷ rest) _ (full_expr_takes h cs c mark.RightParenthesis rest deep read refl) (expects mark.RightParenthesis rest _ _ refl)))
 
   -- ---- initialisers
 
@@ -245,13 +251,13 @@ module _ (names : List (List ℕ)) (depth : ℕ) (r : Readers) (complete : AreCo
     pub decl_begins : {h : ℕ} {ts : Kinds} {a : Decl} → DeclReads names h ts a → Begins (CanBeginSpec names) ts
     decl_begins (DeclReads.decl h ts a s declarators hs hd ss ds hh is ai sread dread) = Begins-same _ is (Begins-append _ (ss ++ ds) _ (Begins-append _ ss ds (SpecReads-begins sread)))
 
-    pub for_first_takes : {h : ℕ} {ts : Kinds} {f : ForInit} → h ≤ depth → FirstReads names h ts f → (rest : Kinds) → for_first names r init (ts ++ rest) ≡ Some ((f, h), rest)
-    unfolding for_first
-    for_first_takes deep (FirstReads.declared h ts f a fi read) rest = rw fi (if_yes (begins_spec names (ts ++ rest)) _ _ _ (spec_begins names _ (Begins-append _ ts rest (decl_begins read)))
+    pub for_init_takes : {h : ℕ} {ts : Kinds} {f : ForInit} → h ≤ depth → ForInitReads names h ts f → (rest : Kinds) → for_init names r init (ts ++ rest) ≡ Some ((f, h), rest)
+    unfolding for_init
+    for_init_takes deep (ForInitReads.declared h ts f a fi read) rest = rw fi (if_yes (begins_spec names (ts ++ rest)) _ _ _ (spec_begins names _ (Begins-append _ ts rest (decl_begins read)))
         (then_takes _ _ (a, h) rest _ (decl_takes deep read rest) refl))
-    for_first_takes deep (FirstReads.computed h ts f o os is fi read) rest = rw (is, fi, append_assoc os (Mark mark.Semicolon ∷ []) rest) (if_no (begins_spec names (os ++ Mark mark.Semicolon ∷ rest)) _ _ _ (option_no_spec rest read)
+    for_init_takes deep (ForInitReads.computed h ts f o os is fi read) rest = rw (is, fi, append_assoc os (Mark mark.Semicolon ∷ []) rest) (if_no (begins_spec names (os ++ Mark mark.Semicolon ∷ rest)) _ _ _ (option_no_spec rest read)
         (then_takes _ _ (o, h) rest _ (option_takes mark.Semicolon refl refl deep read rest) refl))
       where
-        option_no_spec : {names : List (List ℕ)} {h : ℕ} {os : Kinds} {o : Option Expr} (rest : Kinds) → OptionReads names h os o → begins_spec names (os ++ Mark mark.Semicolon ∷ rest) ≡ false
+        option_no_spec : {names : List (List ℕ)} {h : ℕ} {os : Kinds} {o : Option FullExpr} (rest : Kinds) → OptionReads names h os o → begins_spec names (os ++ Mark mark.Semicolon ∷ rest) ≡ false
         option_no_spec rest (OptionReads.nothing h os o hi is oi) = rw is refl
         option_no_spec {names} rest (OptionReads.some h os o e oi read) = expression_no_spec names _ (Begins-append _ os _ (ExprReads-begins read))

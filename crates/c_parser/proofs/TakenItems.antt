@@ -1,5 +1,5 @@
 -- Items of the grammar are what their readers answer, whatever follows, at every depth.
-use Rattle.std.proofs.Common.{◌≡◌, ℕ, zero, suc, ◌<◌, ◌≤◌, Bool, true, false, List, [], ◌∷◌, ◌++◌, Some, refl, ap, ◌∙◌, arith, length, length-append, append_assoc}
+use Rattle.std.proofs.Common.{◌≡◌, ℕ, zero, suc, ◌<◌, ◌≤◌, Bool, true, false, List, [], ◌∷◌, ◌++◌, Some, refl, ap, ◌∙◌, arith, length, map, length-append, append_assoc}
 use Rattle.c_tokens.specs.declared.token.Keyword.TheVariants as word
 use Rattle.c_tokens.specs.declared.token.Kind.TheVariants.{Mark}
 use Rattle.c_tokens.specs.declared.token.Mark.TheVariants as mark
@@ -12,6 +12,8 @@ use Rattle.c_tree.specs.declared.statement.Item.{Item}
 use Rattle.c_tree.specs.declared.statement.Item.TheVariants as item_as
 use Rattle.c_tree.specs.declared.statement.Stmt.{Stmt}
 use Rattle.c_tree.specs.Marks.{Kinds, assign_level}
+use Rattle.c_tree.specs.DeclaredName.{declared_name}
+use Rattle.c_tree.specs.Theorems.{DeclaratorsDeclareTheirNames}
 use Rattle.c_tree.specs.Grammar.{SpecReads, DeclaratorsRead, DeclaratorReads}
 use Rattle.c_tree.specs.Statements.{InitReads, StmtReads, BlockReads, ItemReads}
 use Rattle.c_expr.specs.Parser.{Parser, Outcome, Tall, same_mark, sees}
@@ -21,19 +23,18 @@ use Rattle.c_expr.proofs.Firsts.{Begins, Begins-append, CanBeginSpec, SpecReads-
 use Rattle.c_parser.specs.Readers.{sees_word, decl_of, types_from, types, type_definition, item_of, untyped, item_over, init, stmt, item}
 use Rattle.c_parser.proofs.Steps.{then_takes, if_yes, if_no, eats, leaves, expects, eats_word, leaves_word}
 use Rattle.c_parser.proofs.Fronts.{GoesOn, begins_some, spec_no_word, goes_on_lacks, no_suffix, brace_no_suffix, semicolon_ends, comma_ends, ends_goes_on, semicolon_no_comma, semicolon_no_brace, declarator_no_brace, declarator_no_semicolon}
-use Rattle.c_parser.proofs.DeclaredNames.{declares}
 use Rattle.c_parser.proofs.TakenDecls.{at_tokens, DeclParts, decl_parts, decl_begins, init_over_takes}
 use Rattle.c_parser.proofs.TakenStmts.{StmtsTake, block_takes, stmt_over_takes}
 use Rattle.c_expr.proofs.TakenFirsts.{DeclaratorReads-begins}
 
 block_opens : {names : List (List ℕ)} {h : ℕ} {bs : Kinds} {b : Block} (rest : Kinds) → BlockReads names h bs b → sees mark.LeftBrace (bs ++ rest) ≡ true
 unfolding same_mark
-block_opens rest (BlockReads.braces h ts b parts ps is bi read) = rw is refl
+block_opens rest (BlockReads.braces h ts b items ps is bi read) = rw is refl
 
 block_no_suffix : {names : List (List ℕ)} {h : ℕ} {bs : Kinds} {b : Block} (rest : Kinds) → BlockReads names h bs b → LacksSuffix (bs ++ rest)
-block_no_suffix rest (BlockReads.braces h ts b parts ps is bi read) = rw is (brace_no_suffix ((ps ++ Mark mark.RightBrace ∷ []) ++ rest))
+block_no_suffix rest (BlockReads.braces h ts b items ps is bi read) = rw is (brace_no_suffix ((ps ++ Mark mark.RightBrace ∷ []) ++ rest))
 
-module _ (names : List (List ℕ)) (depth : ℕ) (r : Readers) (complete : AreComplete names depth r) where
+module _ (named : DeclaratorsDeclareTheirNames) (names : List (List ℕ)) (depth : ℕ) (r : Readers) (complete : AreComplete names depth r) where
   module _ (init : Parser (Tall Init)) (init_takes : (h : ℕ) (ts : Kinds) (i : Init) → h ≤ depth → InitReads names h ts i → Takes init (Stops assign_level) h ts i) where
     module _ (inner : Parser (Tall Stmt)) (inner_takes : StmtsTake names depth inner) where
       -- ---- type definitions
@@ -46,22 +47,24 @@ module _ (names : List (List ℕ)) (depth : ℕ) (r : Readers) (complete : AreCo
       declarators_some (DeclaratorsRead.more_declarators h xs ts ds d x others ys hd ho dts os hh xi is di read more) =
           let long = ap (λ ks. length ks) is in let both = length-append dts (Mark mark.Comma ∷ os) in omega arith
 
-      types_take : {h : ℕ} {xs : List (List ℕ)} {ts : Kinds} {ds : List Declarator} → h ≤ depth → DeclaratorsRead names h xs ts ds → (rest : Kinds) (n : ℕ) → length ts ≤ n → (found : List Declarator) (new : List (List ℕ))
-          → types_from names r init inner n found new (ts ++ Mark mark.Semicolon ∷ rest) ≡ Some ((found ++ ds, new ++ xs), Mark mark.Semicolon ∷ rest)
+      types_take : {h : ℕ} {xs : List (List ℕ)} {ts : Kinds} {ds : List Declarator} → h ≤ depth → DeclaratorsRead names h xs ts ds → (rest : Kinds) (n : ℕ) → length ts ≤ n → (found : List Declarator)
+          → types_from names r init inner n found (ts ++ Mark mark.Semicolon ∷ rest) ≡ Some (found ++ ds, Mark mark.Semicolon ∷ rest)
       unfolding types_from
-      types_take {ts = ts} deep read rest zero enough found new = let some : 0 < length ts = declarators_some read in absurd (omega arith)
-      types_take deep (DeclaratorsRead.one_declarator h xs ts ds d x xi di read) rest (suc n) enough found new =
+      types_take {ts = ts} deep read rest zero enough found = let some : 0 < length ts = declarators_some read in absurd (omega arith)
+      types_take deep (DeclaratorsRead.one_declarator h xs ts ds d x xi di read) rest (suc n) enough found =
           let last = Mark mark.Semicolon ∷ rest in
-          rw (xi, di) (then_takes _ _ (d, h) last _ (declarator_takes deep read last (ends_goes_on last (semicolon_ends rest))) (leaves mark.Comma last _ _ _ (semicolon_no_comma rest)
-          (ap (λ y. Some ((found ++ d ∷ [], new ++ y ∷ []), last)) (declares read last))))
-      types_take deep (DeclaratorsRead.more_declarators h xs ts ds d x others ys hd ho dts os hh xi is di read more) rest (suc n) enough found new =
+          rw di (then_takes _ _ (d, h) last _ (declarator_takes deep read last (ends_goes_on last (semicolon_ends rest))) (leaves mark.Comma last _ _ _ (semicolon_no_comma rest) refl))
+      types_take deep (DeclaratorsRead.more_declarators h xs ts ds d x others ys hd ho dts os hh xi is di read more) rest (suc n) enough found =
           let tail = os ++ Mark mark.Semicolon ∷ rest in
           let long = ap (λ ks. length ks) is in
           let both = length-append dts (Mark mark.Comma ∷ os) in
-          rw (xi, di, is, append_assoc dts (Mark mark.Comma ∷ os) (Mark mark.Semicolon ∷ rest))
+          rw (di, is, append_assoc dts (Mark mark.Comma ∷ os) (Mark mark.Semicolon ∷ rest))
           (then_takes _ _ (d, hd) (Mark mark.Comma ∷ tail) _ (declarator_takes (omega arith) read (Mark mark.Comma ∷ tail) (ends_goes_on (Mark mark.Comma ∷ tail) (comma_ends tail)))
-          (eats mark.Comma tail _ _ _ (rw (declares read (Mark mark.Comma ∷ tail))
-          (types_take (omega arith) more rest n (omega arith) (found ++ d ∷ []) (new ++ x ∷ []) ∙ rw (append_assoc found (d ∷ []) others, append_assoc new (x ∷ []) ys) refl))))
+          (eats mark.Comma tail _ _ _ (types_take (omega arith) more rest n (omega arith) (found ++ d ∷ []) ∙ rw (append_assoc found (d ∷ []) others) refl)))
+
+      names_declared : {h : ℕ} {xs : List (List ℕ)} {ts : Kinds} {ds : List Declarator} → DeclaratorsRead names h xs ts ds → map declared_name ds ≡ xs
+      names_declared (DeclaratorsRead.one_declarator h xs ts ds d x xi di read) = rw (di, xi) (ap (λ y. y ∷ []) (named names h x ts d read))
+      names_declared (DeclaratorsRead.more_declarators h xs ts ds d x others ys hd ho dts os hh xi is di read more) = rw (di, xi) (λ i. named names hd x dts d read i ∷ names_declared more i)
 
       spec_takes : {h : ℕ} {ss : Kinds} {s : Spec} → h ≤ depth → SpecReads names true h ss s → (rest : Kinds) → Lacks mark.LeftBrace rest → r.spec true (ss ++ rest) ≡ Some ((s, h), rest)
       spec_takes {h} {ss} {s} deep read rest lacks = complete.spec true h ss s deep read rest lacks
@@ -79,7 +82,7 @@ module _ (names : List (List ℕ)) (depth : ℕ) (r : Readers) (complete : AreCo
           let long = length-append dts last in
           at_tokens (type_definition names r init inner) {us = ss ++ (dts ++ last)} (simp append_assoc)
           (then_takes _ _ (s, hs) (dts ++ last) _ (spec_takes deep sread (dts ++ last) (declarators_no_brace dread last))
-          (then_takes _ _ (ds, new) last _ (types_take low dread rest (length (dts ++ last)) (omega arith) [] []) (expects mark.Semicolon rest _ _ refl)))
+          (then_takes _ _ ds last _ (types_take low dread rest (length (dts ++ last)) (omega arith) []) (expects mark.Semicolon rest _ _ (ap (λ xs. Some ((item_as.Typedef s ds, xs), rest)) (names_declared dread)))))
 
       -- ---- what begins with a spec
 
@@ -132,7 +135,7 @@ module _ (names : List (List ℕ)) (depth : ℕ) (r : Readers) (complete : AreCo
 
 -- ---- at every depth
 
-module _ (complete : ReadersAreComplete) (names : List (List ℕ)) where
+module _ (complete : ReadersAreComplete) (named : DeclaratorsDeclareTheirNames) (names : List (List ℕ)) where
   init_needs_depth : {h : ℕ} {ts : Kinds} {i : Init} → InitReads names h ts i → 1 ≤ h
   init_needs_depth (InitReads.by_expression h ts i e he hi ii read) = omega arith
   init_needs_depth (InitReads.by_braces h ts i parts hp ps hi is ii read) = omega arith
@@ -161,4 +164,4 @@ module _ (complete : ReadersAreComplete) (names : List (List ℕ)) where
 
   pub item_takes : (depth : ℕ) {h : ℕ} {new : List (List ℕ)} {ts : Kinds} {i : Item} → h ≤ depth → ItemReads names h new ts i → (rest : Kinds) → item names depth (ts ++ rest) ≡ Some ((i, new), rest)
   unfolding item
-  item_takes depth deep read rest = item_over_takes names depth (readers names depth) (complete names depth) (init names depth) (init_takes depth) (stmt names depth) (stmt_takes depth) deep read rest
+  item_takes depth deep read rest = item_over_takes named names depth (readers names depth) (complete names depth) (init names depth) (init_takes depth) (stmt names depth) (stmt_takes depth) deep read rest

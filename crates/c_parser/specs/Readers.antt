@@ -1,20 +1,20 @@
 -- The readers of initialisers, declarations, statements and items, over those of expressions: which tokens each takes from the front.
-use Rattle.std.specs.Prelude.{ℕ, zero, suc, ◌+◌, max, Bool, true, false, if◌then◌else◌, List, [], ◌∷◌, ◌++◌, length, Option, Some, None}
+use Rattle.std.specs.Prelude.{ℕ, zero, suc, ◌+◌, max, Bool, true, false, if◌then◌else◌, List, [], ◌∷◌, ◌++◌, length, map, Option, Some, None}
 use Rattle.c_tokens.specs.declared.token.Keyword.{Keyword}
 use Rattle.c_tokens.specs.declared.token.Keyword.TheVariants as word
 use Rattle.c_tokens.specs.declared.token.Kind.{Kind}
-use Rattle.c_tokens.specs.declared.token.Kind.TheVariants.{Word, Name, Mark}
+use Rattle.c_tokens.specs.declared.token.Kind.TheVariants.{Word, Mark}
 use Rattle.c_tokens.specs.declared.token.Mark.{Mark as MarkName}
 use Rattle.c_tokens.specs.declared.token.Mark.TheVariants as mark
 use Rattle.c_tree.specs.declared.expression.Declarator.{Declarator}
-use Rattle.c_tree.specs.declared.expression.Expr.{Expr}
 use Rattle.c_tree.specs.declared.expression.Spec.{Spec}
-use Rattle.c_tree.specs.declared.statement.Block.{Block, roll-Block}
+use Rattle.c_tree.specs.declared.statement.Block.{Block}
 use Rattle.c_tree.specs.declared.statement.BlockItem.{BlockItem}
-use Rattle.c_tree.specs.declared.statement.BlockItem.TheVariants as part_as
+use Rattle.c_tree.specs.declared.statement.BlockItem.TheVariants as block_item_as
 use Rattle.c_tree.specs.declared.statement.Decl.{Decl}
 use Rattle.c_tree.specs.declared.statement.ForInit.{ForInit}
-use Rattle.c_tree.specs.declared.statement.ForInit.TheVariants as first_as
+use Rattle.c_tree.specs.declared.statement.ForInit.TheVariants as for_init_as
+use Rattle.c_tree.specs.declared.statement.FullExpr.{FullExpr}
 use Rattle.c_tree.specs.declared.statement.Init.{Init}
 use Rattle.c_tree.specs.declared.statement.Init.TheVariants as init_as
 use Rattle.c_tree.specs.declared.statement.InitDeclarator.{InitDeclarator}
@@ -23,6 +23,8 @@ use Rattle.c_tree.specs.declared.statement.Item.TheVariants as item_as
 use Rattle.c_tree.specs.declared.statement.Stmt.{Stmt}
 use Rattle.c_tree.specs.declared.statement.Stmt.TheVariants as stmt_as
 use Rattle.c_tree.specs.Marks.{Kinds, greatest_depth, assign_level}
+use Rattle.c_tree.specs.Trees.{full, block as block_of, for_loop}
+use Rattle.c_tree.specs.DeclaredName.{declared_name}
 use Rattle.c_expr.specs.Parser.{Parser, Outcome, Tall, ◌>>=◌, ◌>>◌, pure, mismatch, is_word, sees, behind, eat, expect}
 use Rattle.c_expr.specs.Readers.{Readers, readers, begins_spec}
 use Rattle.c_parser.specs.declared.form.Form.{Form}
@@ -61,36 +63,34 @@ form_of k = form_as.Computation
 unfoldable pub ended : Stmt → Parser (Tall Stmt)
 ended s = expect mark.Semicolon >> pure (s, 1)
 
--- the first name of the tokens, which is the one that a declarator there declares
-abbrev pub first_name : Kinds → List ℕ
-first_name [] = []
-first_name (Name x ∷ ks) = x
-first_name (k ∷ ks) = first_name ks
-
 -- ---- by the readers of expressions, specs and declarators of this depth
 
 module _ (names : List (List ℕ)) (r : Readers) where
+  -- an expression of a statement
+  unfoldable pub full_expr : Parser (Tall FullExpr)
+  full_expr = r.expr assign_level >>= (λ e. pure (full e.0, e.1))
+
   -- an expression, if one stands before the mark, and the mark
-  unfoldable pub option_to : MarkName → Parser (Tall (Option Expr))
+  unfoldable pub option_to : MarkName → Parser (Tall (Option FullExpr))
   option_to m = do
     is_empty ← eat m
     if is_empty then pure (None, 0) else (do
-      e ← r.expr assign_level
+      e ← full_expr
       expect m
       pure (Some e.0, e.1))
 
   -- the condition and the step of a `for`, and the closing parenthesis
-  unfoldable pub for_tests : Parser (Tall (Option Expr × Option Expr))
+  unfoldable pub for_tests : Parser (Tall (Option FullExpr × Option FullExpr))
   for_tests = do
     c ← option_to mark.Semicolon
     step ← option_to mark.RightParenthesis
     pure ((c.0, step.0), max c.1 step.1)
 
   -- an expression in parentheses
-  unfoldable pub condition : Parser (Tall Expr)
+  unfoldable pub condition : Parser (Tall FullExpr)
   condition = do
     expect mark.LeftParenthesis
-    c ← r.expr assign_level
+    c ← full_expr
     expect mark.RightParenthesis
     pure c
 
@@ -153,35 +153,36 @@ module _ (names : List (List ℕ)) (r : Readers) where
       is_empty ← eat mark.Semicolon
       if is_empty then pure (record { spec = s.0; declarators = [] }, s.1) else r.declarator >>= decl_of s
 
-    -- the first part of a `for`, with its `;`
-    unfoldable pub for_first : Parser (Tall ForInit)
-    for_first = λ ts.
-        if begins_spec names ts then (decl >>= (λ d. pure (first_as.Decl d.0, d.1))) ts
-        else (option_to mark.Semicolon >>= (λ o. pure (first_as.Expr o.0, o.1))) ts
+    -- what a `for` begins with, with its `;`
+    unfoldable pub for_init : Parser (Tall ForInit)
+    for_init = λ ts.
+        if begins_spec names ts then (decl >>= (λ d. pure (for_init_as.Decl d.0, d.1))) ts
+        else (option_to mark.Semicolon >>= (λ o. pure (for_init_as.Expr o.0, o.1))) ts
 
     -- ---- statements, by those of the same depth
 
     module _ (inner : Parser (Tall Stmt)) where
-      unfoldable pub part : Parser (Tall BlockItem)
-      part = λ ts.
-          if begins_spec names ts then (decl >>= (λ d. pure (part_as.Decl d.0, d.1))) ts
-          else (inner >>= (λ s. pure (part_as.Stmt s.0, s.1))) ts
+      unfoldable pub block_item : Parser (Tall BlockItem)
+      block_item = λ ts.
+          if begins_spec names ts then (decl >>= (λ d. pure (block_item_as.Decl d.0, d.1))) ts
+          else (inner >>= (λ s. pure (block_item_as.Stmt s.0, s.1))) ts
 
-      unfoldable pub parts_from : ℕ → List BlockItem → ℕ → Parser (Tall (List BlockItem))
-      parts_from zero found height = mismatch
-      parts_from (suc n) found height = do
+      unfoldable pub block_items_from : ℕ → List BlockItem → ℕ → Parser (Tall (List BlockItem))
+      block_items_from zero found height = mismatch
+      block_items_from (suc n) found height = do
         ends ← eat mark.RightBrace
-        if ends then pure (found, height) else part >>= (λ p. parts_from n (found ++ p.0 ∷ []) (max height p.1))
+        if ends then pure (found, height)
+          else block_item >>= (λ i. block_items_from n (found ++ i.0 ∷ []) (max height i.1))
 
-      -- the parts of a block, and the brace behind them
-      unfoldable pub parts : Parser (Tall (List BlockItem))
-      parts = λ ts. parts_from (length ts) [] 0 ts
+      -- the items of a block, and the brace behind them
+      unfoldable pub block_items : Parser (Tall (List BlockItem))
+      block_items = λ ts. block_items_from (length ts) [] 0 ts
 
       unfoldable pub block : Parser (Tall Block)
       block = do
         expect mark.LeftBrace
-        ps ← parts
-        pure (roll-Block (record { parts = ps.0 }), ps.1)
+        is ← block_items
+        pure (block_of is.0, is.1)
 
       -- behind `if`: the statement takes an `else` that comes
       unfoldable pub if_behind : Parser (Tall Stmt)
@@ -208,10 +209,10 @@ module _ (names : List (List ℕ)) (r : Readers) where
       unfoldable pub for_behind : Parser (Tall Stmt)
       for_behind = do
         expect mark.LeftParenthesis
-        f ← for_first
+        f ← for_init
         tests ← for_tests
         body ← inner
-        pure (stmt_as.For f.0 tests.0.0 tests.0.1 body.0, 1 + max f.1 (max tests.1 body.1))
+        pure (for_loop f.0 tests.0.0 tests.0.1 body.0, 1 + max f.1 (max tests.1 body.1))
 
       unfoldable pub return_behind : Parser (Tall Stmt)
       return_behind = option_to mark.Semicolon >>= (λ o. pure (stmt_as.Return o.0, 1 + o.1))
@@ -239,16 +240,15 @@ module _ (names : List (List ℕ)) (r : Readers) where
       -- ---- items, and the type names that each declares
 
       -- behind the spec of a type definition
-      unfoldable pub types_from : ℕ → List Declarator → List (List ℕ) → Parser (List Declarator × List (List ℕ))
-      types_from zero found new = mismatch
-      types_from (suc n) found new = do
-        x ← (λ ts. Some (first_name ts, ts))
+      unfoldable pub types_from : ℕ → List Declarator → Parser (List Declarator)
+      types_from zero found = mismatch
+      types_from (suc n) found = do
         d ← r.declarator
         more ← eat mark.Comma
-        if more then types_from n (found ++ d.0 ∷ []) (new ++ x ∷ []) else pure (found ++ d.0 ∷ [], new ++ x ∷ [])
+        if more then types_from n (found ++ d.0 ∷ []) else pure (found ++ d.0 ∷ [])
 
-      unfoldable pub types : Parser (List Declarator × List (List ℕ))
-      types = λ ts. types_from (length ts) [] [] ts
+      unfoldable pub types : Parser (List Declarator)
+      types = λ ts. types_from (length ts) [] ts
 
       -- behind `typedef`
       unfoldable pub type_definition : Parser (Item × List (List ℕ))
@@ -256,7 +256,7 @@ module _ (names : List (List ℕ)) (r : Readers) where
         s ← r.spec true
         ds ← types
         expect mark.Semicolon
-        pure (item_as.Typedef s.0 ds.0, ds.1)
+        pure (item_as.Typedef s.0 ds, map declared_name ds)
 
       -- behind the spec and the first declarator
       unfoldable pub item_of : Tall Spec → Tall Declarator → Parser (Item × List (List ℕ))

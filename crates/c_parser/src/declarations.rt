@@ -7,12 +7,29 @@ ghost use Rattle.c_parser.specs.Readers as reader;
 
 use c_expr::{Cursor, Failure, Names, begins_spec, declarator, expr, spec};
 use c_tokens::Mark;
-use c_tree::{Decl, Declarator, Expr, ForInit, Init, InitDeclarator, Spec};
-use sqlite_items::Items;
+use c_tree::{Decl, Declarator, ForInit, FullExpr, Init, InitDeclarator, Spec};
+use sqlite_items::{Boxed, Items};
 use std::alloc::Global;
 
 /// The level of the loosest expressions.
 pub(crate) const ASSIGN_LEVEL: usize = 0;
+
+/// An expression of a statement.
+#[tactic(auto, unfolding(crate::specs::Readers::full_expr))]
+fn full_expr(
+    alloc: Global,
+    names: &Names,
+    tokens: &mut Cursor<'_>,
+    depth: usize,
+) -> Result<(FullExpr, usize), Failure>
+    requires { depth < 2 ^ 31 }
+    ensures reads { Reads (reader.full_expr names.now (readers names.now depth) tokens.old) result tokens.new }
+    ensures tall { IfOk result (λ e. e.1 ≤ depth) }
+{
+    let (expr, height) = expr(alloc, names, tokens, depth, ASSIGN_LEVEL)?;
+    let expr = Boxed::new(alloc, expr)?;
+    Ok((FullExpr { expr }, height))
+}
 
 /// An expression, if one stands before the mark, and the mark.
 #[tactic(auto, unfolding(crate::specs::Readers::option_to))]
@@ -22,7 +39,7 @@ pub(crate) fn option_to(
     tokens: &mut Cursor<'_>,
     depth: usize,
     mark: Mark,
-) -> Result<(Option<Expr>, usize), Failure>
+) -> Result<(Option<FullExpr>, usize), Failure>
     requires { depth < 2 ^ 31 }
     ensures reads { Reads (reader.option_to names.now (readers names.now depth) mark tokens.old) result tokens.new }
     ensures tall { IfOk result (λ o. o.1 ≤ depth) }
@@ -30,9 +47,9 @@ pub(crate) fn option_to(
     if tokens.eat(mark) {
         return Ok((None, 0));
     }
-    let (expr, height) = expr(alloc, names, tokens, depth, ASSIGN_LEVEL)?;
+    let (full, height) = full_expr(alloc, names, tokens, depth)?;
     tokens.expect(mark)?;
-    Ok((Some(expr), height))
+    Ok((Some(full), height))
 }
 
 /// The condition and the step of a `for`, and the closing parenthesis.
@@ -42,7 +59,7 @@ pub(crate) fn for_tests(
     names: &Names,
     tokens: &mut Cursor<'_>,
     depth: usize,
-) -> Result<((Option<Expr>, Option<Expr>), usize), Failure>
+) -> Result<((Option<FullExpr>, Option<FullExpr>), usize), Failure>
     requires { depth < 2 ^ 31 }
     ensures reads { Reads (reader.for_tests names.now (readers names.now depth) tokens.old) result tokens.new }
     ensures tall { IfOk result (λ c. c.1 ≤ depth) }
@@ -59,13 +76,13 @@ pub(crate) fn condition(
     names: &Names,
     tokens: &mut Cursor<'_>,
     depth: usize,
-) -> Result<(Expr, usize), Failure>
+) -> Result<(FullExpr, usize), Failure>
     requires { depth < 2 ^ 31 }
     ensures reads { Reads (reader.condition names.now (readers names.now depth) tokens.old) result tokens.new }
     ensures tall { IfOk result (λ c. c.1 ≤ depth) }
 {
     tokens.expect(Mark::LeftParenthesis)?;
-    let read = expr(alloc, names, tokens, depth, ASSIGN_LEVEL)?;
+    let read = full_expr(alloc, names, tokens, depth)?;
     tokens.expect(Mark::RightParenthesis)?;
     Ok(read)
 }
@@ -206,21 +223,21 @@ pub(crate) fn decl(
     decl_of(alloc, names, tokens, depth, (spec, height), first)
 }
 
-/// The first part of a `for`, with its `;`.
-#[tactic(auto, unfolding(crate::specs::Readers::for_first))]
-pub(crate) fn for_first(
+/// What a `for` begins with, with its `;`.
+#[tactic(auto, unfolding(crate::specs::Readers::for_init))]
+pub(crate) fn for_init(
     alloc: Global,
     names: &Names,
     tokens: &mut Cursor<'_>,
     depth: usize,
 ) -> Result<(ForInit, usize), Failure>
     requires { depth < 2 ^ 31 }
-    ensures reads { Reads (reader.for_first names.now (readers names.now depth) (reader.init names.now depth) tokens.old) result tokens.new }
+    ensures reads { Reads (reader.for_init names.now (readers names.now depth) (reader.init names.now depth) tokens.old) result tokens.new }
     ensures tall { IfOk result (λ f. f.1 ≤ depth) }
 {
     if begins_spec(names, tokens) {
         let (decl, height) = decl(alloc, names, tokens, depth)?;
-        return Ok((ForInit::Decl(decl), height));
+        return Ok((ForInit::Decl(Boxed::new(alloc, decl)?), height));
     }
     let (expr, height) = option_to(alloc, names, tokens, depth, Mark::Semicolon)?;
     Ok((ForInit::Expr(expr), height))

@@ -1,6 +1,7 @@
 //! Items.
 
-ghost use Rattle.std.specs.Prelude.{◌≡◌, ◌≤◌, ◌<◌, ◌^◌, IfOk};
+ghost use Rattle.std.specs.Prelude.{◌≡◌, ◌≤◌, ◌<◌, ◌^◌, map, IfOk};
+ghost use Rattle.c_tree.specs.DeclaredName.{declared_name};
 ghost use Rattle.c_expr.specs.Reads.{Reads};
 ghost use Rattle.c_parser.specs.Readers as reader;
 ghost use Rattle.c_parser.specs.Readers.{of_depth};
@@ -9,43 +10,39 @@ use crate::declarations::decl_of;
 use crate::knot::block;
 use crate::words::eat_word;
 use c_expr::{Cursor, Failure, Names, declarator, spec};
-use c_tokens::{Keyword, Kind, Mark};
+use c_tokens::{Keyword, Mark};
 use c_tree::{Decl, Declarator, Item, Spec};
-use c_types::Name;
+use c_types::{Name, copy_name};
 use sqlite_items::Items;
 use std::alloc::{AllocError, Global};
 
-/// The first name of the tokens that are left.
-fn first_name(alloc: Global, tokens: &Cursor<'_>) -> Result<Name, AllocError>
-    ensures { IfOk result (λ name. name ≡ reader.first_name tokens.now) }
+/// The names that declarators declare.
+fn declared_names(alloc: Global, declarators: &[Declarator]) -> Result<Items<Name>, AllocError>
+    ensures { IfOk result (λ new. new ≡ map declared_name declarators.now) }
 {
-    for token in tokens.place() {
-        if let Kind::Name(spelling) = &token.kind {
-            return Ok(Name::new(Vec::from_slice(alloc, spelling.as_slice())?));
-        }
+    let mut names = Items::new(alloc);
+    for declarator in declarators {
+        names.push(copy_name(alloc, declarator.name())?)?;
     }
-    Ok(Name::new(Vec::new(alloc)))
+    Ok(names)
 }
 
-/// The declarators of a type definition, and the names that they declare.
+/// The declarators of a type definition.
 fn types(
     alloc: Global,
     names: &Names,
     tokens: &mut Cursor<'_>,
     depth: usize,
-) -> Result<(Items<Declarator>, Items<Name>), Failure>
+) -> Result<Items<Declarator>, Failure>
     requires { depth < 2 ^ 31 }
     ensures { Reads (of_depth reader.types names.now depth tokens.old) result tokens.new }
 {
     let mut found = Items::new(alloc);
-    let mut new = Items::new(alloc);
     for _turn in 0..tokens.left() {
-        let name = first_name(alloc, tokens)?;
         let (declarator, _) = declarator(alloc, names, tokens, depth)?;
         found.push(declarator)?;
-        new.push(name)?;
         if !tokens.eat(Mark::Comma) {
-            return Ok((found, new));
+            return Ok(found);
         }
     }
     Err(Failure::Mismatch)
@@ -63,8 +60,9 @@ fn type_definition(
     ensures { Reads (of_depth reader.type_definition names.now depth tokens.old) result tokens.new }
 {
     let (spec, _) = spec(alloc, names, tokens, depth)?;
-    let (declarators, new) = types(alloc, names, tokens, depth)?;
+    let declarators = types(alloc, names, tokens, depth)?;
     tokens.expect(Mark::Semicolon)?;
+    let new = declared_names(alloc, declarators.as_slice())?;
     Ok((Item::Typedef(spec, declarators), new))
 }
 

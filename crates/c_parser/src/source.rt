@@ -12,7 +12,7 @@ use crate::error::ParseRefusal;
 use crate::items::item;
 use c_expr::{Cursor, Failure, Names};
 use c_tokens::Tokens;
-use c_tree::{Item, Unit};
+use c_tree::{Item, Unit, declarators_declare_their_names};
 use c_types::{Name, copy_name};
 use sqlite_items::Items;
 use std::alloc::{AllocError, Global};
@@ -64,6 +64,7 @@ pub fn parse(alloc: Global, tokens: &Tokens) -> Result<Unit, ParseRefusal>
     ensures refused { (count : ℕ) → result ≡ Err (Syntax count) → IsSyntaxRefusal (kinds_of tokens.now) count }
     ensures refuses { (count : ℕ) → IsSyntaxRefusal (kinds_of tokens.now) count → IsAnswer result (Err (Syntax count)) }
 {
+    declarators_declare_their_names();
     let mut cursor = Cursor::new(tokens.as_slice());
     let (items, left) = items_of(alloc, &mut cursor)?;
     if left == 0 {

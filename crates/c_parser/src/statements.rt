@@ -8,12 +8,12 @@ ghost use Rattle.c_parser.specs.Nests.{Nests};
 ghost use Rattle.c_parser.specs.Readers as reader;
 ghost use Rattle.c_parser.specs.Readers.{of_depth};
 
-use crate::declarations::{condition, decl, for_first, for_tests, option_to};
+use crate::declarations::{condition, decl, for_init, for_tests, option_to};
 use crate::form::{Form, form_of};
 use crate::words::{eat_word, expect_word};
 use c_expr::{Cursor, Failure, Names, begins_spec};
 use c_tokens::{Keyword, Kind, Mark};
-use c_tree::{Block, BlockItem, Expr, Stmt};
+use c_tree::{Block, BlockItem, ForLoop, FullExpr, Stmt};
 use sqlite_items::{Boxed, Items};
 use std::alloc::Global;
 
@@ -72,7 +72,7 @@ where
     }
 
     /// An expression in parentheses.
-    fn condition(&self, tokens: &mut Cursor<'_>) -> Result<(Expr, usize), Failure>
+    fn condition(&self, tokens: &mut Cursor<'_>) -> Result<(FullExpr, usize), Failure>
         requires { self.now.depth < 2 ^ 31 }
         ensures reads { Reads (reader.condition self.now.names.now (readers self.now.names.now self.now.depth) tokens.old) result tokens.new }
         ensures tall { IfOk result (λ c. c.1 ≤ self.now.depth) }
@@ -85,7 +85,7 @@ where
         &self,
         tokens: &mut Cursor<'_>,
         mark: Mark,
-    ) -> Result<(Option<Expr>, usize), Failure>
+    ) -> Result<(Option<FullExpr>, usize), Failure>
         requires { self.now.depth < 2 ^ 31 }
         ensures reads { Reads (reader.option_to self.now.names.now (readers self.now.names.now self.now.depth) mark tokens.old) result tokens.new }
         ensures tall { IfOk result (λ o. o.1 ≤ self.now.depth) }
@@ -93,25 +93,25 @@ where
         option_to(self.alloc, self.names, tokens, self.depth, mark)
     }
 
-    /// A part of a block.
-    #[tactic(auto, unfolding(crate::specs::Readers::part))]
-    fn part(&self, tokens: &mut Cursor<'_>) -> Result<(BlockItem, usize), Failure>
+    /// A declaration or a statement of a block.
+    #[tactic(auto, unfolding(crate::specs::Readers::block_item))]
+    fn block_item(&self, tokens: &mut Cursor<'_>) -> Result<(BlockItem, usize), Failure>
         requires { Nests self.now.depth (F.pre self.now.stmt) (F.post self.now.stmt) }
-        ensures reads { Reads (of_depth reader.part self.now.names.now self.now.depth tokens.old) result tokens.new }
+        ensures reads { Reads (of_depth reader.block_item self.now.names.now self.now.depth tokens.old) result tokens.new }
         ensures tall { IfOk result (λ s. s.1 ≤ self.now.depth) }
     {
         if begins_spec(self.names, tokens) {
             let (decl, height) = decl(self.alloc, self.names, tokens, self.depth)?;
-            return Ok((BlockItem::Decl(decl), height));
+            return Ok((BlockItem::Decl(Boxed::new(self.alloc, decl)?), height));
         }
         let (stmt, height) = self.inner(tokens)?;
         Ok((BlockItem::Stmt(stmt), height))
     }
 
-    /// The parts of a block, and the `}` behind them.
-    fn parts(&self, tokens: &mut Cursor<'_>) -> Result<(Items<BlockItem>, usize), Failure>
+    /// The items of a block, and the `}` behind them.
+    fn block_items(&self, tokens: &mut Cursor<'_>) -> Result<(Items<BlockItem>, usize), Failure>
         requires { Nests self.now.depth (F.pre self.now.stmt) (F.post self.now.stmt) }
-        ensures reads { Reads (of_depth reader.parts self.now.names.now self.now.depth tokens.old) result tokens.new }
+        ensures reads { Reads (of_depth reader.block_items self.now.names.now self.now.depth tokens.old) result tokens.new }
         ensures tall { IfOk result (λ s. s.1 ≤ self.now.depth) }
     {
         let mut found = Items::new(self.alloc);
@@ -120,8 +120,8 @@ where
             if tokens.eat(Mark::RightBrace) {
                 return Ok((found, height));
             }
-            let (part, its_height) = self.part(tokens)?;
-            found.push(part)?;
+            let (item, its_height) = self.block_item(tokens)?;
+            found.push(item)?;
             height = height.max(its_height);
         }
         Err(Failure::Mismatch)
@@ -135,8 +135,8 @@ where
         ensures tall { IfOk result (λ s. s.1 ≤ self.now.depth) }
     {
         tokens.expect(Mark::LeftBrace)?;
-        let (parts, height) = self.parts(tokens)?;
-        Ok((Block { parts }, height))
+        let (items, height) = self.block_items(tokens)?;
+        Ok((Block { items }, height))
     }
 
     /// What stands behind an `if`. It takes an `else` that comes.
@@ -147,16 +147,23 @@ where
         ensures tall { IfOk result (λ s. s.1 ≤ 1 + self.now.depth) }
     {
         let (test, test_height) = self.condition(tokens)?;
-        let (then, then_height) = self.boxed(tokens)?;
+        let (then_branch, then_height) = self.boxed(tokens)?;
         let height = test_height.max(then_height);
         if !eat_word(tokens, Keyword::Else) {
-            return Ok((Stmt::If(test, then, None), 1 + height));
+            let alone = Stmt::If {
+                condition: test,
+                then_branch,
+                else_branch: None,
+            };
+            return Ok((alone, 1 + height));
         }
-        let (otherwise, other_height) = self.boxed(tokens)?;
-        Ok((
-            Stmt::If(test, then, Some(otherwise)),
-            1 + height.max(other_height),
-        ))
+        let (otherwise, else_height) = self.boxed(tokens)?;
+        let whole = Stmt::If {
+            condition: test,
+            then_branch,
+            else_branch: Some(otherwise),
+        };
+        Ok((whole, 1 + height.max(else_height)))
     }
 
     /// What stands behind a `while`.
@@ -193,12 +200,21 @@ where
         ensures tall { IfOk result (λ s. s.1 ≤ 1 + self.now.depth) }
     {
         tokens.expect(Mark::LeftParenthesis)?;
-        let (first, first_height) = for_first(self.alloc, self.names, tokens, self.depth)?;
-        let ((test, step), tests_height) = for_tests(self.alloc, self.names, tokens, self.depth)?;
-        let (body, height) = self.boxed(tokens)?;
+        let (init, init_height) = for_init(self.alloc, self.names, tokens, self.depth)?;
+        let ((condition, step), tests_height) = for_tests(
+            self.alloc, self.names, tokens, self.depth,
+        )?;
+        let (body, height) = self.inner(tokens)?;
+        let for_loop = ForLoop {
+            init,
+            condition,
+            step,
+            body,
+        };
+        let for_loop = Boxed::new(self.alloc, for_loop)?;
         Ok((
-            Stmt::For(first, test, step, body),
-            1 + first_height.max(tests_height.max(height)),
+            Stmt::For(for_loop),
+            1 + init_height.max(tests_height.max(height)),
         ))
     }
 

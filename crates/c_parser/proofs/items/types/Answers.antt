@@ -14,7 +14,7 @@ unfolding types_from
 returns-in_err-declarator c =
     let names = c.args.names.now in
     let depth = c.args.depth in
-    let e = next_turn (λ n. types_from names (readers names depth) (init names depth) (stmt names depth) n c.loop-turn.found c.loop-turn.new c.loop-turn.tokens) _ c.loop-turn._turn c.loop-turn-test.true c.loop-turn.invariant in
+    let e = next_turn (λ n. types_from names (readers names depth) (init names depth) (stmt names depth) n c.loop-turn.found c.loop-turn.tokens) _ c.loop-turn._turn c.loop-turn-test.true c.loop-turn.invariant in
     first_of (search rules, grind (arith, common_steps))
 
 pub returns-then-not-eat : goal.returns-then-not-eat
@@ -22,7 +22,7 @@ unfolding types_from
 returns-then-not-eat c =
     let names = c.args.names.now in
     let depth = c.args.depth in
-    let e = next_turn (λ n. types_from names (readers names depth) (init names depth) (stmt names depth) n c.loop-turn.found c.loop-turn.new c.loop-turn.tokens) _ c.loop-turn._turn c.loop-turn-test.true c.loop-turn.invariant in
+    let e = next_turn (λ n. types_from names (readers names depth) (init names depth) (stmt names depth) n c.loop-turn.found c.loop-turn.tokens) _ c.loop-turn._turn c.loop-turn-test.true c.loop-turn.invariant in
     first_of (search rules, grind (arith, common_steps))
 
 pub loop-turn-preserved : goal.loop-turn-preserved
@@ -30,7 +30,7 @@ unfolding types_from
 loop-turn-preserved c =
     let names = c.args.names.now in
     let depth = c.args.depth in
-    let e = next_turn (λ n. types_from names (readers names depth) (init names depth) (stmt names depth) n c.loop-turn.found c.loop-turn.new c.loop-turn.tokens) _ c.loop-turn._turn c.loop-turn-test.true c.loop-turn.invariant in
+    let e = next_turn (λ n. types_from names (readers names depth) (init names depth) (stmt names depth) n c.loop-turn.found c.loop-turn.tokens) _ c.loop-turn._turn c.loop-turn-test.true c.loop-turn.invariant in
     first_of (search rules, grind (arith, common_steps))
 
 pub returns : goal.returns
@@ -38,5 +38,5 @@ unfolding types_from
 returns c =
     let names = c.args.names.now in
     let depth = c.args.depth in
-    let e = last_turn (λ n. types_from names (readers names depth) (init names depth) (stmt names depth) n c.loop-turn.found c.loop-turn.new c.loop-turn.tokens) _ c.loop-turn._turn c.loop-turn-test.false c.loop-turn.invariant in
+    let e = last_turn (λ n. types_from names (readers names depth) (init names depth) (stmt names depth) n c.loop-turn.found c.loop-turn.tokens) _ c.loop-turn._turn c.loop-turn-test.false c.loop-turn.invariant in
     first_of (search rules, grind (arith, common_steps))
