@@ -171,15 +171,17 @@ Drafted z words x (Low y) = (puts x.mine < z.quota) × (slice_index words (low_a
 Drafted z words x (Both y w) = (puts x.mine < z.quota) × (slice_index words (low_at z (next_record z x)) ≡ y)
     × (slice_index words (high_at z (next_record z x)) ≡ w)
 
--- a number that a view holds: it is held by no other view, it was given, and its calls in the history are those kept for it
-pub record HeldFits (z : StoreSize) (words : List ℕ) (h : List StoreCall) (owner : ℕ → ℕ) (id : ℕ) (x : Held) : Type 0 where
+-- a number that a view holds: no other view holds it, it was given, and its calls in the history are those kept for it
+pub record HeldFits (z : StoreSize) (words : List ℕ) (h : List StoreCall) (owner : ℕ → ℕ) (id : ℕ)
+    (x : Held) : Type 0 where
   pub owned : owner x.number ≡ id
   pub given : x.number < slice_index words number_word
   pub mine : calls_by x.number h ≡ x.mine
   pub drafted : Drafted z words x x.draft
 
 -- a view: what it has seen and was told are beginnings of the history; the opener alone gives numbers
-pub record ViewFits (z : StoreSize) (words : List ℕ) (h : List StoreCall) (owner : ℕ → ℕ) (opener_at id : ℕ) (v : View) : Type 0 where
+pub record ViewFits (z : StoreSize) (words : List ℕ) (h : List StoreCall) (owner : ℕ → ℕ)
+    (opener_at id : ℕ) (v : View) : Type 0 where
   pub size_is : v.size ≡ z
   pub opens : (g : ℕ) → v.given ≡ Some g → (id ≡ opener_at) × (slice_index words number_word ≡ g)
   pub seen : IsPrefix v.seen h

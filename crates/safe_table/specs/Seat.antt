@@ -46,6 +46,10 @@ HasRecord z n (Some e) = (r : ℕ) × (n ≡ r + 1) × (r < z.quota * z.threads)
 abbrev pub fresh_seat : StoreName → ℕ → SeatState
 fresh_seat store n = record { store = store; number = n; seen = []; mine = [] }
 
+-- a fresh seat of each number below n, in order
+abbrev pub AreFresh : StoreName → ℕ → List SeatState → Type 0
+AreFresh store n seats = (k : ℕ) → k < n → slice_get seats k ≡ Some (fresh_seat store k)
+
 -- the seat has made this call, at one place of one legal history
 pub record SeatCall (s t : SeatState) (action : Action) (reply : Reply) (put before : ℕ) : Type 0 where
   pub between : List StoreCall

@@ -67,7 +67,8 @@ impl SafeTable {
         slot
     }
 
-    /// The first of `k` slots behind all that were asked for, or none where they would pass the limit.
+    /// The first of `k` slots behind all that were asked for, or none where they would pass the
+    /// limit.
     pub fn alloc(&self, seat: &mut SafeSeat, k: u32) -> Option<u32>
         requires own { seat.old.seat.store ≡ self.now }
         requires amount { (1 ≤ k) × (k ≤ 256) }
@@ -127,7 +128,8 @@ impl SafeTable {
         self.load_end::<Brand>(seat, id)
     }
 
-    /// The next thread number, or none at the limit. A seat that was told of none adds nothing from then on.
+    /// The next thread number, or none at the limit. A seat that was told of none adds nothing from
+    /// then on.
     pub fn fork(&self, seat: &mut SafeSeat) -> Option<u8>
         requires own { seat.old.seat.store ≡ self.now }
         ensures called { SeatCall seat.old.seat seat.new.seat Fork (Thread result) 0 0 }

@@ -65,7 +65,8 @@ impl SafeTable {
         ensures whole { IsGathering result }
         ensures has { Gathered result seat }
         ensures seen { IsPrefix all.seen result.seen }
-        ensures held { (k : ℕ) (x : Held) → get_elem? all.held k ≡ some x → get_elem? result.held k ≡ some x }
+        ensures held { (k : ℕ) (x : Held) → get_elem? all.held k ≡ some x
+            → get_elem? result.held k ≡ some x }
     {
         let mut all = all.seat;
         let shared = &self.table.shared;

@@ -1,4 +1,5 @@
-//! A store's size, and the calls of its history. No value of a call is made: histories stand in clauses alone.
+//! A store's size, and the calls of its history. No value of a call is made: histories stand in
+//! clauses alone.
 use meaning::{Action, Reply};
 
 /// How many slots and threads a store has, and how many puts each of its seats may make.
@@ -9,8 +10,8 @@ pub struct StoreSize {
     pub quota: u64,
 }
 
-/// A call of a store: the number of its seat, what it asked, its reply, the number of the put that it
-/// made or read, and that of the put that it replaced; 0 where there is none.
+/// A call of a store: the number of its seat, what it asked, its reply, the number of the put that
+/// it made or read, and that of the put that it replaced; 0 where there is none.
 pub struct StoreCall {
     pub by: u8,
     pub action: Action,

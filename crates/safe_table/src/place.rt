@@ -1,5 +1,5 @@
-//! Where the words of a table lie: three numbers, a cell for each address, an end word for each id, two
-//! words for each put.
+//! Where the words of a table lie: three numbers, a cell for each address, an end word for each id,
+//! two words for each put.
 ghost use Rattle.std.specs.Prelude.{◌≡◌, ◌^◌, ◌<◌};
 ghost use Rattle.safe_table.specs.Rule.{IsSize, cell_at, end_at, low_at, word_count};
 

@@ -7,7 +7,8 @@ use crate::view::View;
 use atomic_table::{Join, Play, Split};
 use std::marker::{Brand, PhantomData};
 
-/// What a step is about where its operands don't say: the address, the amount or the id, and the entry.
+/// What a step is about where its operands don't say: the address, the amount or the id, and the
+/// entry.
 pub(crate) trait About {
     ghost number: { ℕ };
 

@@ -71,15 +71,16 @@ impl SafeTable {
         before
     }
 
-    /// Puts the entry, whose words stand in the seat's next record, at an address. The number of this
-    /// put, and that of the one that it replaced.
+    /// Puts the entry, whose words stand in the seat's next record, at an address. The number of
+    /// this put, and that of the one that it replaced.
     pub fn put(&self, seat: &mut SafeSeat, a: u32, entry: &Entry) -> (u64, u64)
         requires entry { IsEntry self.now.size entry.now }
         requires own { seat.old.seat.store ≡ self.now }
         requires inside { a < 64 * self.now.size.slots }
         requires room { 0 < puts_left seat.old.seat }
         requires written { seat.old.draft ≡ Both (low_word entry.now) (high_word entry.now) }
-        ensures called { SeatCall seat.old.seat seat.new.seat (Put a entry.now) Nothing result.0 result.1 }
+        ensures called { SeatCall seat.old.seat seat.new.seat (Put a entry.now) Nothing
+            result.0 result.1 }
         ensures number { result.0 ≡ next_number seat.old.seat }
         ensures blank { seat.new.draft ≡ Blank }
         ensures left { puts_left seat.new.seat + 1 ≡ puts_left seat.old.seat }

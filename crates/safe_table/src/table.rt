@@ -28,11 +28,12 @@ impl Model for SafeTable {
 
     ghost view = { λ s. record { table_id = s.table.shared.table_id; size = s.size } };
 
-    ghost invariant = { λ s. (s.table.shared.key ≡ s.size) × (s.table.shared.table_id.words ≡ word_count s.size) × IsSize s.size };
+    ghost invariant = { λ s. (s.table.shared.key ≡ s.size)
+        × (s.table.shared.table_id.words ≡ word_count s.size) × IsSize s.size };
 }
 
-/// What a thread makes its steps with: its number, how many puts it may still make, and whether it was
-/// told that there are no more slots or no more thread numbers.
+/// What a thread makes its steps with: its number, how many puts it may still make, and whether it
+/// was told that there are no more slots or no more thread numbers.
 #[derive(Drop)]
 pub struct SafeSeat {
     pub(crate) seat: Seat<u8, View>,
@@ -67,7 +68,10 @@ impl Model for Opener {
 
     ghost Value = { Opening };
 
-    ghost view = { λ o. record { store = record { table_id = o.seat.table_id; size = o.seat.me.0.size }; given = o.given } };
+    ghost view = { λ o. record {
+      store = record { table_id = o.seat.table_id; size = o.seat.me.0.size };
+      given = o.given;
+    } };
 
     ghost invariant = { λ o. o.seat.me ≡ (opened o.seat.me.0.size o.given, []) };
 }
@@ -103,7 +107,8 @@ impl SafeTable {
         requires own { opener.old.store ≡ self.now }
         requires few { opener.old.given < self.now.size.threads }
         ensures next { opener.new ≡ record { store = self.now; given = opener.old.given + 1 } }
-        ensures fresh { result ≡ record { seat = fresh_seat self.now opener.old.given; draft = Blank } }
+        ensures fresh { result
+            ≡ record { seat = fresh_seat self.now opener.old.given; draft = Blank } }
     {
         let shared = &self.table.shared;
         shared.fetch_add::<NumberPlay>(&mut opener.seat, NUMBER_WORD, 1);

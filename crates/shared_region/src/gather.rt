@@ -30,7 +30,8 @@ impl Shared {
         requires own { All (λ s. s.store ≡ self.now) seats.items }
         ensures legal { IsHistory self.now.size result }
         ensures covers { All (Covers result) seats.items }
-        ensures named { (k : ℕ) (c : StoreCall) → slice_get result k ≡ Some c → c.by < self.now.size.threads }
+        ensures named { (k : ℕ) (c : StoreCall) → slice_get result k ≡ Some c
+            → c.by < self.now.size.threads }
         ensures whole { HasAllSeats self.now.size seats.items → IsMadeBy seats.items result }
     {
         let mut seats = seats;

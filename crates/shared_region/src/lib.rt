@@ -1,5 +1,5 @@
-//! The shared store: the calls of many threads on one safe store, which have their places in one legal
-//! history.
+//! The shared store: the calls of many threads on one safe store, which have their places in one
+//! legal history.
 #![tactic(auto)]
 
 mod entry;

@@ -1,10 +1,10 @@
 //! The store, its seats, and a seat's calls.
-ghost use Rattle.std.specs.Prelude.{◌≡◌, ℕ, ◌+◌, ◌-◌, ◌*◌, ◌/◌, ◌<◌, ◌≤◌, IfOk, IfSome, Some, slice_get, vec_len};
+ghost use Rattle.std.specs.Prelude.{◌≡◌, ◌+◌, ◌*◌, ◌/◌, ◌<◌, ◌≤◌, IfOk, IfSome, vec_len};
 ghost use Rattle.meaning.specs.declared.action.Action.TheVariants.{Get, Put, Alloc, Free, Look, Fork};
 ghost use Rattle.meaning.specs.declared.action.Reply.TheVariants.{Nothing, Found, Slot, Flag, Thread};
 ghost use Rattle.safe_table.specs.declared.view.Draft.TheVariants.{Blank};
 ghost use Rattle.safe_table.specs.Entries.{IsEntry};
-ghost use Rattle.safe_table.specs.Seat.{Meets, SeatCall, fresh_seat, next_number, puts_left};
+ghost use Rattle.safe_table.specs.Seat.{Meets, AreFresh, SeatCall, next_number, puts_left};
 
 use crate::entry::{entry_of, high_word, low_word};
 use meaning::Entry;
@@ -12,8 +12,8 @@ use safe_table::{Opener, SafeSeat, SafeTable, StoreSize};
 use std::alloc::{AllocError, Global};
 use std::marker::Model;
 
-/// A safe store that threads share: entries at addresses, slots, ids and thread numbers. No call of it
-/// waits, and none but `open` takes memory.
+/// A safe store that threads share: entries at addresses, slots, ids and thread numbers. No call of
+/// it waits, and none but `open` takes memory.
 #[derive(Drop)]
 pub struct Shared {
     pub(crate) table: SafeTable,
@@ -70,7 +70,7 @@ fn deal(
     requires none { opener.given ≡ 0 }
     requires all { threads ≡ table.now.size.threads }
     ensures count { IfOk result (λ v. vec_len v ≡ threads) }
-    ensures seats { IfOk result (λ v. (k : ℕ) → k < threads → slice_get v.items k ≡ Some (fresh_seat table.now k)) }
+    ensures seats { IfOk result (λ v. AreFresh table.now threads v.items) }
 {
     let mut opener = opener;
     let mut seats = Vec::new(alloc);
@@ -82,8 +82,8 @@ fn deal(
 }
 
 impl Shared {
-    /// A store with this many slots and threads, in which each seat may make `turns / 2` puts, and its
-    /// seats in order of their numbers.
+    /// A store with this many slots and threads, in which each seat may make `turns / 2` puts, and
+    /// its seats in order of their numbers.
     pub fn open(
         alloc: Global,
         slots: u32,
@@ -93,9 +93,10 @@ impl Shared {
         requires slots { (1026 ≤ slots) × (slots ≤ 16384) }
         requires threads { (1 ≤ threads) × (threads ≤ 16) }
         requires turns { threads * turns ≤ 262144 }
-        ensures size { IfOk result (λ r. r.0.size ≡ record { slots = slots; threads = threads; quota = turns / 2 }) }
+        ensures size { IfOk result (λ r.
+            r.0.size ≡ record { slots = slots; threads = threads; quota = turns / 2 }) }
         ensures count { IfOk result (λ r. vec_len r.1 ≡ threads) }
-        ensures seats { IfOk result (λ r. (k : ℕ) → k < threads → slice_get r.1.items k ≡ Some (fresh_seat r.0 k)) }
+        ensures seats { IfOk result (λ r. AreFresh r.0 threads r.1.items) }
     {
         let size = StoreSize {
             slots,
@@ -107,7 +108,8 @@ impl Shared {
         Ok((Shared { table }, seats))
     }
 
-    /// The first of `k` slots behind all that were asked for, or none where they would pass the limit.
+    /// The first of `k` slots behind all that were asked for, or none where they would pass the
+    /// limit.
     pub fn alloc(&self, seat: &mut ThreadSeat, k: u32) -> Option<u32>
         requires own { seat.old.store ≡ self.now }
         requires amount { (1 ≤ k) × (k ≤ 256) }

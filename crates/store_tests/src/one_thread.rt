@@ -14,16 +14,34 @@ fn puts_and_gets_of_two_seats_have_their_numbers(rt: HostRuntime) -> Result<(), 
     let first = store.put(&mut zero, 128, Entry::Code(3));
     assert_eq!(rt; first, Written { put: 1, before: 0 });
     let read = store.get(&mut one, 128);
-    assert_eq!(rt; read, Read { entry: Some(Entry::Code(3)), put: 1 });
+    assert_eq!(rt;
+        read,
+        Read {
+            entry: Some(Entry::Code(3)),
+            put: 1
+        }
+    );
     let second = store.put(&mut one, 128, Entry::Bare(7));
     assert_eq!(rt; second, Written { put: 5, before: 1 });
     let read = store.get(&mut zero, 128);
-    assert_eq!(rt; read, Read { entry: Some(Entry::Bare(7)), put: 5 });
+    assert_eq!(rt;
+        read,
+        Read {
+            entry: Some(Entry::Bare(7)),
+            put: 5
+        }
+    );
     let third = store.put(&mut zero, 128, Entry::Code(0));
     assert_eq!(rt; third, Written { put: 2, before: 5 });
     assert_eq!(rt; zero.puts_left(), 2);
     let read = store.get(&mut one, 192);
-    assert_eq!(rt; read, Read { entry: None, put: 0 });
+    assert_eq!(rt;
+        read,
+        Read {
+            entry: None,
+            put: 0
+        }
+    );
     let mut all = Vec::new(rt.alloc());
     all.push(zero)?;
     all.push(one)?;
@@ -66,7 +84,10 @@ fn each_kind_of_entry_is_read_back(rt: HostRuntime) -> Result<(), Fail> {
     store.put(&mut seat, 1_048_575, based);
     assert_eq!(rt; store.get(&mut seat, 1_048_575).entry, Some(based));
     store.put(&mut seat, 0, Entry::Bare(0xffff_ffff));
-    assert_eq!(rt; store.get(&mut seat, 0).entry, Some(Entry::Bare(0xffff_ffff)));
+    assert_eq!(rt;
+        store.get(&mut seat, 0).entry,
+        Some(Entry::Bare(0xffff_ffff))
+    );
     store.put(&mut seat, 0, Entry::Code(4095));
     assert_eq!(rt; store.get(&mut seat, 0).entry, Some(Entry::Code(4095)));
     Ok(())

@@ -10,8 +10,8 @@ use std::test::Fail;
 use std::thread;
 use std::thread::Threads;
 
-/// A hundred calls at one address, put and get by turns. Each put is the number that it has, and each get
-/// answers the number of the put that it names.
+/// A hundred calls at one address, put and get by turns. Each put is the number that it has, and
+/// each get answers the number of the put that it names.
 fn put_and_get(store: &Shared, seat: ThreadSeat, quota: u64) -> bool
     requires own { seat.store ≡ store.now }
     requires inside { 128 < 64 * store.now.size.slots }
@@ -43,7 +43,9 @@ fn both<R: Threads + Wait>(rt: &R, store: &Shared, zero: ThreadSeat, one: Thread
         thread::scope_env(),
         rt,
         move |scope| -> bool
-            requires { (zero.store ≡ store.now) × (one.store ≡ store.now) × (128 < 64 * store.now.size.slots) × (50 ≤ puts_left zero) × (50 ≤ puts_left one) }
+            requires { (zero.store ≡ store.now) × (one.store ≡ store.now)
+                × (128 < 64 * store.now.size.slots)
+                × (50 ≤ puts_left zero) × (50 ≤ puts_left one) }
         {
             let first = scope.spawn(move || put_and_get(store, zero, 50));
             let second = scope.spawn(move || put_and_get(store, one, 50));
@@ -65,8 +67,8 @@ fn two_threads_read_each_other_s_puts(rt: HostRuntime) -> Result<(), Fail> {
     Ok(())
 }
 
-/// What a thread was told: two slots, whether its free of each id was the first, and whether a look behind it
-/// found the id ended.
+/// What a thread was told: two slots, whether its free of each id was the first, and whether a look
+/// behind it found the id ended.
 #[derive(Drop)]
 struct Told {
     slots: [Option<u32>; 2],

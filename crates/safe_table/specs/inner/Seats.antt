@@ -23,7 +23,7 @@ seat_state id n m =
 abbrev pub drafting : TableId → ℕ → Sat → Drafting
 drafting id n m = record { seat = seat_state id n m; draft = draft_in m.0.held }
 
--- a seat between two steps: its number, the puts that are left, and whether it was told that there are no more slots or numbers
+-- a seat between two steps: its number, the puts that are left, and whether it was told that no slots or numbers are left
 pub record IsWhole (n left : ℕ) (late crowded : Bool) (m : Sat) : Type 0 where
   pub none_out : m.1 ≡ []
   pub live : m.0.live ≡ true
