@@ -17,8 +17,6 @@ mod names;
 mod operand;
 mod specs;
 mod suffixes;
-#[cfg(test)]
-mod tests;
 
 pub use cursor::Cursor;
 pub use error::Failure;

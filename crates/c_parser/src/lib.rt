@@ -9,8 +9,6 @@ mod knot;
 mod laws;
 mod source;
 mod statements;
-#[cfg(test)]
-mod tests;
 mod words;
 
 pub use error::ParseRefusal;
