@@ -28,7 +28,7 @@ use Rattle.c_tree.specs.declared.expression.Direct.TheOpen.{Expr-F}
 use Rattle.c_tree.specs.Marks.{Kinds, wrapped, assign_mark, binary_mark, unary_mark}
 use Rattle.c_tree.specs.Trees.{member_decl, declarator, abstract, type_word}
 use Rattle.c_tree.specs.Grammar.{HasParts, star_kinds}
-use Rattle.c_tree.specs.Fold.{Node, Trees, with_results}
+use Rattle.c_tree.specs.Fold.{Node, Plain, with_results}
 use Rattle.c_tree.specs.inner.FoldEquations as Fold
 use Rattle.c_tree.specs.Printed.{joined, with_commas, sign, left_of_sign, right_of_sign, body_kinds, bound_kinds}
 use Rattle.c_tree.specs.Printed.{bracketed_kinds, declarator_kinds, expr_step, printing, printed_direct, printed_expr}
@@ -230,12 +230,12 @@ unfolding printing expr_parts printed_direct printed_expr printed_param printed_
     printed_abstract printed_declarator printed_member printed_type_word
 expr-of e = Fold.expr-of printing e
 
-pub parts-at : (e : Expr) {layer : Node Trees Expr-F} → out-Expr e ≡ layer → expr_parts e ≡ with_results printed layer
+pub parts-at : (e : Expr) {layer : Node Plain Expr-F} → out-Expr e ≡ layer → expr_parts e ≡ with_results printed layer
 unfolding expr_parts
 parts-at e is = ap (with_results printed) is
 
 -- an expression that isn't one token is printed in parentheses
-enclosed-at : (e : Expr) (layer : Node Trees Expr-F) → e ≡ roll-Expr layer
+enclosed-at : (e : Expr) (layer : Node Plain Expr-F) → e ≡ roll-Expr layer
     → ((x : List ℕ) → e ≡ expr.Identifier x → ⊥) → ((n : ℤ) → e ≡ expr.Number n → ⊥) → ((bytes : List ℕ) → e ≡ expr.Text bytes → ⊥)
     → expr_step (with_results printed layer) ≡ wrapped 1 (left_of_sign (with_results printed layer) ++ sign (with_results printed layer) ∷ right_of_sign (with_results printed layer))
 enclosed-at e (Expr-F.Assign a op b) is name number text = refl

@@ -82,9 +82,9 @@ fold s = record {
       s.direct s.expr s.param s.params s.spec s.suffix s.abstract s.declarator s.member s.type_word;
 }
 
--- the trees themselves
-abbrev pub Trees : Results
-Trees = record {
+-- the trees themselves, of which nothing was computed
+abbrev pub Plain : Results
+Plain = record {
   direct = Direct;
   expr = Expr;
   param = Param;
@@ -98,7 +98,7 @@ Trees = record {
 }
 
 -- an expression's node, with the results of its parts
-abbrev pub with_results : {r : Results} → Pass r → Node Trees Expr-F → Node r Expr-F
+abbrev pub with_results : {r : Results} → Pass r → Node Plain Expr-F → Node r Expr-F
 with_results p = map-Expr _ _ _ _ _ _ _ _ _ _ _ _ _ _ _ _ _ _ _ _
     p.direct p.expr p.param p.params p.spec p.suffix p.abstract p.declarator p.member p.type_word
 

@@ -40,9 +40,9 @@ fold_statements s = record {
   for_loop = fold-ForLoop _ _ _ _ s.block_item s.stmt s.block s.for_loop;
 }
 
--- the trees themselves
-abbrev pub StatementTrees : StatementResults
-StatementTrees = record {
+-- the trees themselves, of which nothing was computed
+abbrev pub PlainStatements : StatementResults
+PlainStatements = record {
   block_item = BlockItem;
   stmt = Stmt;
   block = Block;

@@ -12,7 +12,7 @@ use Rattle.c_tree.specs.declared.expression.Declarator.{fold-roll-Declarator, fo
 use Rattle.c_tree.specs.declared.expression.Direct.{Direct, roll-Direct, map-Direct, fold-roll-Direct}
 use Rattle.c_tree.specs.declared.expression.Direct.TheOpen.{Direct-F, Expr-F, Param-F, Params-F, Spec-F, Suffix-F}
 use Rattle.c_tree.specs.declared.expression.Direct.TheVariants as direct
-use Rattle.c_tree.specs.declared.expression.Expr.{Expr, roll-Expr, map-Expr, fold-roll-Expr, fold_out-Expr}
+use Rattle.c_tree.specs.declared.expression.Expr.{Expr, roll-Expr, fold-roll-Expr, fold_out-Expr}
 use Rattle.c_tree.specs.declared.expression.Expr.TheVariants as expr
 use Rattle.c_tree.specs.declared.expression.MemberDecl.{MemberDecl, out-MemberDecl}
 use Rattle.c_tree.specs.declared.expression.MemberDecl.{fold-roll-MemberDecl, fold_out-MemberDecl}
@@ -25,7 +25,7 @@ use Rattle.c_tree.specs.declared.expression.Spec.TheVariants as spec
 use Rattle.c_tree.specs.declared.expression.Suffix.{Suffix, roll-Suffix, map-Suffix, fold-roll-Suffix}
 use Rattle.c_tree.specs.declared.expression.Suffix.TheVariants as suffix
 use Rattle.c_tree.specs.declared.expression.TypeWord.{TypeWord, out-TypeWord, fold-roll-TypeWord, fold_out-TypeWord}
-use Rattle.c_tree.specs.Fold.{Results, Steps, Pass, Node, Trees, fold, expr_node}
+use Rattle.c_tree.specs.Fold.{Results, Steps, Pass, Node, Plain, fold, with_results, expr_node}
 use Rattle.c_tree.specs.Trees.{member_decl, declarator, abstract, type_word}
 
 module _ {r : Results} (steps : Steps r) where
@@ -41,9 +41,8 @@ module _ {r : Results} (steps : Steps r) where
 
   -- ---- expressions
 
-  expr-made : (node : Node Trees Expr-F) → of.expr (roll-Expr node)
-      ≡ steps.expr (map-Expr _ _ _ _ _ _ _ _ _ _ _ _ _ _ _ _ _ _ _ _
-      of.direct of.expr of.param of.params of.spec of.suffix of.abstract of.declarator of.member of.type_word node)
+  expr-made : (node : Node Plain Expr-F) → of.expr (roll-Expr node)
+      ≡ steps.expr (with_results of node)
   unfolding fold
   expr-made node = fold-roll-Expr _ _ _ _ _ _ _ _ _ _
       steps.direct steps.expr steps.param steps.params steps.spec
@@ -111,7 +110,7 @@ module _ {r : Results} (steps : Steps r) where
 
   -- ---- specs
 
-  spec-made : (node : Node Trees Spec-F) → of.spec (roll-Spec node)
+  spec-made : (node : Node Plain Spec-F) → of.spec (roll-Spec node)
       ≡ steps.spec (map-Spec _ _ _ _ _ _ _ _ _ _ _ _ _ _ _ _ _ _ _ _
       of.direct of.expr of.param of.params of.spec of.suffix of.abstract of.declarator of.member of.type_word node)
   unfolding fold
@@ -138,7 +137,7 @@ module _ {r : Results} (steps : Steps r) where
 
   -- ---- what the stars and suffixes of a declarator stand round
 
-  direct-made : (node : Node Trees Direct-F) → of.direct (roll-Direct node)
+  direct-made : (node : Node Plain Direct-F) → of.direct (roll-Direct node)
       ≡ steps.direct (map-Direct _ _ _ _ _ _ _ _ _ _ _ _ _ _ _ _ _ _ _ _
       of.direct of.expr of.param of.params of.spec of.suffix of.abstract of.declarator of.member of.type_word node)
   unfolding fold
@@ -155,7 +154,7 @@ module _ {r : Results} (steps : Steps r) where
 
   -- ---- suffixes
 
-  suffix-made : (node : Node Trees Suffix-F) → of.suffix (roll-Suffix node)
+  suffix-made : (node : Node Plain Suffix-F) → of.suffix (roll-Suffix node)
       ≡ steps.suffix (map-Suffix _ _ _ _ _ _ _ _ _ _ _ _ _ _ _ _ _ _ _ _
       of.direct of.expr of.param of.params of.spec of.suffix of.abstract of.declarator of.member of.type_word node)
   unfolding fold
@@ -173,7 +172,7 @@ module _ {r : Results} (steps : Steps r) where
 
   -- ---- parameters
 
-  params-made : (node : Node Trees Params-F) → of.params (roll-Params node)
+  params-made : (node : Node Plain Params-F) → of.params (roll-Params node)
       ≡ steps.params (map-Params _ _ _ _ _ _ _ _ _ _ _ _ _ _ _ _ _ _ _ _
       of.direct of.expr of.param of.params of.spec of.suffix of.abstract of.declarator of.member of.type_word node)
   unfolding fold
@@ -192,7 +191,7 @@ module _ {r : Results} (steps : Steps r) where
 
   -- ---- one parameter
 
-  param-made : (node : Node Trees Param-F) → of.param (roll-Param node)
+  param-made : (node : Node Plain Param-F) → of.param (roll-Param node)
       ≡ steps.param (map-Param _ _ _ _ _ _ _ _ _ _ _ _ _ _ _ _ _ _ _ _
       of.direct of.expr of.param of.params of.spec of.suffix of.abstract of.declarator of.member of.type_word node)
   unfolding fold

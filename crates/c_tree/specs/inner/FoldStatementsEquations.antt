@@ -13,8 +13,8 @@ use Rattle.c_tree.specs.declared.statement.ForLoop.{fold_out-ForLoop}
 use Rattle.c_tree.specs.declared.statement.FullExpr.{FullExpr}
 use Rattle.c_tree.specs.declared.statement.Stmt.{Stmt, roll-Stmt, map-Stmt, fold-roll-Stmt}
 use Rattle.c_tree.specs.declared.statement.Stmt.TheVariants as stmt
-use Rattle.c_tree.specs.FoldStatements.{StatementResults, StatementSteps, StatementPass, StatementNode, StatementTrees}
-use Rattle.c_tree.specs.FoldStatements.{fold_statements}
+use Rattle.c_tree.specs.FoldStatements.{StatementResults, StatementSteps, StatementPass, StatementNode}
+use Rattle.c_tree.specs.FoldStatements.{PlainStatements, fold_statements}
 use Rattle.c_tree.specs.Trees.{block}
 
 module _ {r : StatementResults} (steps : StatementSteps r) where
@@ -24,7 +24,7 @@ module _ {r : StatementResults} (steps : StatementSteps r) where
 
   -- ---- statements
 
-  stmt-made : (node : StatementNode StatementTrees Stmt-F) → of.stmt (roll-Stmt node)
+  stmt-made : (node : StatementNode PlainStatements Stmt-F) → of.stmt (roll-Stmt node)
       ≡ steps.stmt (map-Stmt _ _ _ _ _ _ _ _ of.block_item of.stmt of.block of.for_loop node)
   unfolding fold_statements
   stmt-made node = fold-roll-Stmt _ _ _ _ steps.block_item steps.stmt steps.block steps.for_loop node
@@ -61,7 +61,7 @@ module _ {r : StatementResults} (steps : StatementSteps r) where
 
   -- ---- block items
 
-  block_item-made : (node : StatementNode StatementTrees BlockItem-F) → of.block_item (roll-BlockItem node)
+  block_item-made : (node : StatementNode PlainStatements BlockItem-F) → of.block_item (roll-BlockItem node)
       ≡ steps.block_item (map-BlockItem _ _ _ _ _ _ _ _ of.block_item of.stmt of.block of.for_loop node)
   unfolding fold_statements
   block_item-made node = fold-roll-BlockItem _ _ _ _ steps.block_item steps.stmt steps.block steps.for_loop node
