@@ -69,12 +69,12 @@ pub record CanDefine (defs : List StructDef) (s : ℕ) (ms : List Member) : Type
 pub record IsSound (defs : List StructDef) : Type 0 where
   -- each member has units that aren't refused and names structs of the table
   pub members_fit :
-    (s : ℕ) (ms : List Member)
-    → body_of defs s ≡ Some ms
-    → IsTrue (are_members defs ms)
+      (s : ℕ) (ms : List Member)
+      → body_of defs s ≡ Some ms
+      → IsTrue (are_members defs ms)
   -- a struct with a body has units, though they may be too many
   pub bodies_have_units :
-    (s : ℕ) (ms : List Member)
-    → body_of defs s ≡ Some ms
-    → IsTrue (is_some (exact_units defs (ty.Struct s)))
+      (s : ℕ) (ms : List Member)
+      → body_of defs s ≡ Some ms
+      → IsTrue (is_some (exact_units defs (ty.Struct s)))
   pub none_contains_itself : (s : ℕ) → Contains defs s s → ⊥

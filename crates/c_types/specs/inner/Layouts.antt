@@ -80,11 +80,11 @@ pub record IsLaidOut (defs : List StructDef) (tags : List (List ℕ)) (layouts :
   pub named : tags ≡ map tag_of defs
   pub stored : layouts ≡ map (layout_in defs) defs
   pub members_fit :
-    (s : ℕ) (ms : List Member)
-    → body_of defs s ≡ Some ms
-    → IsTrue (are_members defs ms)
+      (s : ℕ) (ms : List Member)
+      → body_of defs s ≡ Some ms
+      → IsTrue (are_members defs ms)
   -- no struct stands deeper than there are bodies
   pub shallow :
-    (s : ℕ) (ms : List Member)
-    → body_of defs s ≡ Some ms
-    → IsTrue (is_some (struct_units (bodies defs) defs s))
+      (s : ℕ) (ms : List Member)
+      → body_of defs s ≡ Some ms
+      → IsTrue (is_some (struct_units (bodies defs) defs s))
