@@ -1,5 +1,5 @@
 -- What ends the way of a job is its refusal, or want of memory.
-use Rattle.std.proofs.Common.{◌≡◌, ◌⊎◌, ℕ, Bool, List, Option, None, Some, MatchOption, IfSome, Result, Ok, Err, refl, sym, subst, ◌∙◌, ⊎_elim, inl}
+use Rattle.std.proofs.Common.{◌≡◌, ◌⊎◌, ℕ, Bool, List, Option, None, Some, MatchOption, Result, Ok, Err, refl, subst, ⊎_elim, inl}
 use Rattle.std.specs.Option.{ok_or}
 use Rattle.std.specs.Io.KnownBytes.{IsAtEnd}
 use Rattle.lv_base.specs.declared.source.ReadEnd.{ReadEnd}
@@ -21,7 +21,7 @@ use Rattle.levee_top.specs.declared.status.Status.{Status}
 use Rattle.levee_top.specs.Command.{IsCommand, IsNoCommand}
 use Rattle.levee_top.specs.Elaborate.{IsProgramOf}
 use Rattle.levee_top.specs.Levee.{Gives}
-use Rattle.levee_top.specs.Outcome.{IsJob, HasProgram, greatest_job, Refuses, no_job, no_program, bad_line, too_long, Outcome, usage, refused, ran}
+use Rattle.levee_top.specs.Outcome.{IsJob, greatest_job, no_job, no_program, bad_line, too_long, usage, refused, ran}
 use Rattle.levee_top.specs.inner.Failure.{read_failure, source_failure, script_failure, Runs, FailsAt, Ends}
 use Rattle.levee_top.proofs.OutcomeLemmas.{refused_is_none, whole_input, long_input, any_input}
 

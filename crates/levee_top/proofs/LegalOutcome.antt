@@ -1,5 +1,5 @@
 -- A run that is an outcome is of a valid program, and so it is legal.
-use Rattle.std.proofs.Common.{◌≡◌, ℕ, List, ◌<◌}
+use Rattle.std.proofs.Common.{ℕ, List}
 use Rattle.meaning.specs.declared.event.Event.{Event}
 use Rattle.meaning.specs.declared.small.program.Program.{Program}
 use Rattle.meaning.specs.Legal.{LegalHistory}

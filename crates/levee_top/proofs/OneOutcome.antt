@@ -1,8 +1,6 @@
 -- Words and an input have one outcome. An input is told stage by stage, by its cut, its source and its script, and each
 -- stage has one answer.
-use Rattle.std.proofs.Common.{◌≡◌, ◌⊎◌, ◌≤◌, ℕ, Bool, true, false, List, Option, Some, None, Result, Ok, Err, length, refl, sym, subst, ap, ◌∙◌, inl, inr, ⊎_elim, arith}
-use Rattle.std.specs.Io.KnownBytes.{Appends}
-use Rattle.job.specs.Lines.{IsCut}
+use Rattle.std.proofs.Common.{◌≡◌, ◌⊎◌, ℕ, Bool, true, false, List, Some, Result, Ok, Err, refl, sym, subst, ap, ◌∙◌, inl, inr, ⊎_elim, arith}
 use Rattle.job.specs.Theorems.{JobsHaveOneCut, CutJobsHaveAMark}
 use Rattle.meaning.specs.declared.event.Event.{Event}
 use Rattle.meaning.specs.declared.small.program.Program.{Program}

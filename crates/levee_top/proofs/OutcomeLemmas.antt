@@ -1,14 +1,13 @@
 -- What an outcome says of its status and of the words, and the input that was read.
-use Rattle.std.proofs.Common.{◌≡◌, ◌<◌, ◌++◌, ℕ, Bool, true, false, List, [], Option, Some, None, refl, sym, subst, ap, ◌∙◌, inl, append-nil, arith, length, length-append}
-use Rattle.std.specs.Io.KnownBytes.{Appends, Consumes, IsAtEnd}
+use Rattle.std.proofs.Common.{◌≡◌, ◌<◌, ◌++◌, ℕ, Bool, true, false, List, [], Option, Some, None, refl, sym, subst, ap, ◌∙◌, append-nil, arith, length, length-append}
+use Rattle.std.specs.Io.KnownBytes.{Appends, IsAtEnd}
 use Rattle.lv_base.specs.Whole.{Takes, TakesAbove}
-use Rattle.levee_top.specs.declared.command.Command.{Command}
 use Rattle.levee_top.specs.declared.command.Command.TheVariants.{Run}
 use Rattle.levee_top.specs.declared.refusal.Refusal.{Refusal}
 use Rattle.levee_top.specs.declared.refusal.Refusal.TheVariants as refusal
 use Rattle.levee_top.specs.declared.status.Status.{Status}
 use Rattle.levee_top.specs.declared.status.Status.TheVariants as status
-use Rattle.levee_top.specs.Command.{IsCommand, IsNoCommand}
+use Rattle.levee_top.specs.Command.{IsNoCommand}
 use Rattle.levee_top.specs.Levee.{IsWhole, IsAcceptance, IsTold, IsInput, Gives}
 use Rattle.levee_top.specs.Outcome.{status_of, greatest_job, Refuses, no_job, no_program, bad_line, too_long, Outcome, usage, refused, ran}
 use Rattle.levee_top.specs.Refusal.{refusal_status, refusal_text, IsRefused}

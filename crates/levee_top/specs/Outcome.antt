@@ -33,7 +33,9 @@ abbrev pub status_of : Bool → Status
 status_of violated = cond violated Violation Done
 
 -- what is answered and written for the run of a program over events
-pub record IsRun (full : Bool) (program : Program) (events : List Event) (status : Status) (text : List ℕ) : Type 0 where
+pub record IsRun
+    (full : Bool) (program : Program) (events : List Event)
+    (status : Status) (text : List ℕ) : Type 0 where
   pub status_is : status ≡ status_of (is_violated (trace_of (steps_of program events)))
   pub text_is : text ≡ trace_text full (trace_of (steps_of program events))
 

@@ -2,7 +2,7 @@
 ghost use Rattle.std.specs.Prelude.{◌≡◌, ◌≤◌, length, IfOk, IfErr};
 ghost use Rattle.meaning.specs.small.Program.{IsValid};
 ghost use Rattle.meaning.specs.small.Trace.{trace_of, is_violated};
-ghost use Rattle.levee_top.specs.Outcome.{IsRun, steps_of, status_of};
+ghost use Rattle.levee_top.specs.Outcome.{IsRun, greatest_job, steps_of, status_of};
 ghost use Rattle.levee_top.specs.inner.Failure.{Runs, FailsAt};
 
 use super::failure::Failure;
@@ -34,7 +34,7 @@ const RUN_SLOTS: u32 = 1_048_576;
 ///
 /// `Refused` exactly where the job is refused, with why, and `Memory`.
 pub fn answer_job(alloc: Global, full: bool, job: &[u8]) -> Result<Answer, Failure>
-    requires { length job.now ≤ 1048576 }
+    requires { length job.now ≤ greatest_job }
     ensures runs { IfOk result (λ answer. Runs full job.now answer.status answer.text.items) }
     ensures fails { IfErr result (FailsAt job.now) }
 {
@@ -52,7 +52,8 @@ fn answer_run(
     events: &Events,
 ) -> Result<Answer, AllocError>
     requires { IsValid program.now }
-    ensures { IfOk result (λ answer. IsRun full program.now events.now answer.status answer.text.items) }
+    ensures { IfOk result
+        (λ answer. IsRun full program.now events.now answer.status answer.text.items) }
 {
     let trace = run(alloc, program, events)?;
     Ok(Answer {

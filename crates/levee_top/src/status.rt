@@ -1,3 +1,4 @@
+//! How a call ended, and its exit status.
 ghost use Rattle.std.specs.Prelude.{◌≡◌};
 
 /// How a call of the program ended.

@@ -13,9 +13,9 @@ pub fn outcomes_are_unique()
     scripts_have_one_answer();
 }
 
-/// Whatever the words and the input, a run that they give is one legal history: each read of the safe store
-/// gives what was last put there. And its transfers are good: each call through a pointer goes to the
-/// function that was read at its place, each return behind its call.
+/// Whatever the words and the input, a run that they give is one legal history: each read of the safe
+/// store gives what was last put there. And its transfers are good: each call through a pointer goes to
+/// the function that was read at its place, each return behind its call.
 pub fn outcomes_are_legal()
     ensures { OutcomesAreLegal }
 {

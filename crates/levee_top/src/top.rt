@@ -34,7 +34,8 @@ fn answer_words<S: Source>(
     ensures ends { IfErr result (Ends (map string_bytes words.now)
         (S.left source.old) (S.bytes_read source.old) (S.bytes_read source.new)) }
     ensures end { OnOk result (IsAtEnd (S.left source.new)) }
-    ensures fault { IsErrOf result Failure.Fault → Rose (S.faults source.old) (S.faults source.new) }
+    ensures fault { IsErrOf result Failure.Fault
+        → Rose (S.faults source.old) (S.faults source.new) }
     ensures command { IsErrOf result Failure.Fault → IsNoCommand (map string_bytes words.now) → ⊥ }
     ensures counted { S.faults source.old ≤ S.faults source.new }
 {
@@ -51,7 +52,8 @@ fn answer<S: Source>(alloc: Global, words: &[String], source: &mut S) -> Result<
         (S.left source.old) (S.bytes_read source.old) (S.bytes_read source.new)
         answer.status answer.text.items) }
     ensures end { IfOk result (λ answer. IsAcceptance answer.status → IsAtEnd (S.left source.new)) }
-    ensures fault { IsErrOf result Trouble.Failed → Rose (S.faults source.old) (S.faults source.new) }
+    ensures fault { IsErrOf result Trouble.Failed
+        → Rose (S.faults source.old) (S.faults source.new) }
     ensures command { IsErrOf result Trouble.Failed → IsNoCommand (map string_bytes words.now) → ⊥ }
     ensures counted { S.faults source.old ≤ S.faults source.new }
 {
@@ -91,19 +93,19 @@ fn deliver<K: Sink>(sink: &mut K, text: &[u8], status: Status) -> Status
     }
 }
 
-/// Does what the words ask on the job that the source holds, writes its text to the sink and answers its
-/// status.
+/// Does what the words ask on the job that the source holds, writes its text to the sink and answers
+/// its status.
 ///
-/// The words `run` and `run --full` run a job, with its text in brief and in full; all others are `Usage`.
-/// The order of refusals is: the words, the input's faults, the job, its source, its script.
+/// The words `run` and `run --full` run a job, with its text in brief and in full; all others are
+/// `Usage`. The order of refusals is: the words, the input's faults, the job, its source, its script.
 pub fn levee<S: Source, K: Sink>(
     alloc: Global,
     words: &[String],
     source: &mut S,
     sink: &mut K,
 ) -> Status
-    // The text written and the status are those of the outcome of the words and the input that was read: the
-    // input that the source tells, where it tells one. A run is one legal history with good transfers.
+    // The text written and the status are those of the outcome of the words and the input that was read:
+    // the one that the source tells, where it tells one. A run is one legal history with good transfers.
     ensures outcome { IsWhole result → Writes (map string_bytes words.now)
         (S.left source.old) (S.bytes_read source.old) (S.bytes_read source.new)
         (K.contents sink.old) (K.contents sink.new) result }
@@ -115,18 +117,22 @@ pub fn levee<S: Source, K: Sink>(
         → (result ≡ status) × Appends (K.contents sink.old) (K.contents sink.new) text }
     ensures end { IsAcceptance result → IsAtEnd (S.left source.new) }
 
-    // Usage and its line come for words that are no command alone, and exactly there but for faults of the
-    // sink and want of memory.
+    // Usage and its line come for words that are no command alone, and exactly there but for faults of
+    // the sink and want of memory.
     ensures usage { result ≡ Status.Usage → IsNoCommand (map string_bytes words.now) }
     ensures no_command { IsNoCommand (map string_bytes words.now)
         → (result ≡ Status.Usage) ⊎ ((result ≡ Status.WriteFault) ⊎ (result ≡ Status.Memory)) }
     ensures usage_line { result ≡ Status.Usage
         → Appends (K.contents sink.old) (K.contents sink.new) (refusal_text refusal.Usage) }
 
-    // A read fault leaves nothing written, a write fault or want of memory nothing or a prefix of the text.
-    ensures read_fault { result ≡ Status.ReadFault → Rose (S.faults source.old) (S.faults source.new) }
-    ensures unwritten { result ≡ Status.ReadFault → Keeps (K.contents sink.old) (K.contents sink.new) }
-    ensures write_fault { result ≡ Status.WriteFault → Rose (K.faults sink.old) (K.faults sink.new) }
+    // A read fault leaves nothing written, a write fault or want of memory nothing or a prefix of the
+    // text.
+    ensures read_fault { result ≡ Status.ReadFault
+        → Rose (S.faults source.old) (S.faults source.new) }
+    ensures unwritten { result ≡ Status.ReadFault
+        → Keeps (K.contents sink.old) (K.contents sink.new) }
+    ensures write_fault { result ≡ Status.WriteFault
+        → Rose (K.faults sink.old) (K.faults sink.new) }
     ensures prefix { result ≡ Status.WriteFault → WritesPrefix (map string_bytes words.now)
         (S.left source.old) (S.bytes_read source.old) (S.bytes_read source.new)
         (K.contents sink.old) (K.contents sink.new) }

@@ -1,6 +1,6 @@
-//! Sources and sinks of bytes: what a reader above knows of them is the bytes that they tell, a count of
-//! their faults and a count of the bytes that were read, so that "a fault is answered only where one was
-//! counted" and "too long only where too much came" can be proved.
+//! Sources and sinks of bytes: what a reader above knows of them is the bytes that they tell, a count
+//! of their faults and a count of the bytes that were read, so that "a fault is answered only where one
+//! was counted" and "too long only where too much came" can be proved.
 #![tactic(auto)]
 
 mod count;

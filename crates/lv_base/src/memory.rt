@@ -9,7 +9,7 @@ use super::source::{Source, Trouble};
 use super::vector::VecSource;
 use std::alloc::{AllocError, Global};
 
-/// A source over bytes in memory that comes in small pieces and fails where it is told to, for tests.
+/// A source over bytes in memory, for tests: it comes in small pieces and fails where it is told to.
 #[derive(Drop)]
 pub struct MemSource {
     bytes: VecSource,
@@ -61,15 +61,21 @@ impl Source for MemSource {
     /// nothing, and the count of faults rises by one.
     fn read(&mut self, buf: &mut [u8]) -> Result<usize, Trouble>
         ensures bound { IfOk result (λ n. n ≤ length buf.new) }
-        ensures bytes { ReadConsumes (Some (mem_source_left self.old)) (Some (mem_source_left self.new)) result buf.new }
-        ensures bytes_counted { CountsRead (mem_source_read self.old) (mem_source_read self.new) result }
-        ensures failed { IsErrOf result Trouble.Failed → Rose (mem_source_faults self.old) (mem_source_faults self.new) }
+        ensures bytes { ReadConsumes (Some (mem_source_left self.old))
+            (Some (mem_source_left self.new)) result buf.new }
+        ensures bytes_counted { CountsRead (mem_source_read self.old)
+            (mem_source_read self.new) result }
+        ensures failed { IsErrOf result Trouble.Failed
+            → Rose (mem_source_faults self.old) (mem_source_faults self.new) }
         ensures counted { mem_source_faults self.old ≤ mem_source_faults self.new }
 
-        ensures fails { IsErrOf result Trouble.Failed ↔ Contains (mem_source_fails self.old) (one_more (mem_source_calls self.old)) }
+        ensures fails { IsErrOf result Trouble.Failed
+            ↔ Contains (mem_source_fails self.old) (one_more (mem_source_calls self.old)) }
         ensures not_memory { ¬ IsErrOf result Trouble.Memory }
-        ensures amount { IfOk result (λ n. n ≡ min (mem_source_piece self.old) (min (length buf.old) (length (mem_source_left self.old)))) }
-        ensures fault_counted { OnErr result (mem_source_faults self.new ≡ one_more (mem_source_faults self.old)) }
+        ensures amount { IfOk result (λ n. n ≡ min (mem_source_piece self.old)
+            (min (length buf.old) (length (mem_source_left self.old)))) }
+        ensures fault_counted { OnErr result
+            (mem_source_faults self.new ≡ one_more (mem_source_faults self.old)) }
         ensures no_fault { OnOk result (mem_source_faults self.new ≡ mem_source_faults self.old) }
         ensures call_counted { mem_source_calls self.new ≡ one_more (mem_source_calls self.old) }
         ensures same_piece { mem_source_piece self.new ≡ mem_source_piece self.old }
@@ -85,7 +91,7 @@ impl Source for MemSource {
     }
 }
 
-/// A sink in memory with a fixed room that takes small pieces and fails where it is told to, for tests.
+/// A sink in memory with a fixed room, for tests: it takes small pieces and fails where it is told to.
 #[derive(Drop)]
 pub struct MemSink {
     held: Vec<u8>,
@@ -142,7 +148,9 @@ impl MemSink {
 
     // Whether the call that is counted last fails.
     fn refuses(&self, bytes: &[u8]) -> bool
-        ensures { IsTrue result ↔ (Contains (mem_sink_fails self.now) (mem_sink_calls self.now) ⊎ ((0 < length bytes.now) × (mem_sink_room self.now ≡ 0))) }
+        ensures { IsTrue result
+            ↔ (Contains (mem_sink_fails self.now) (mem_sink_calls self.now)
+            ⊎ ((0 < length bytes.now) × (mem_sink_room self.now ≡ 0))) }
     {
         let is_full = self.held.len() == self.room;
         self.fails.contains(&self.calls) || (is_full && !bytes.is_empty())
@@ -166,15 +174,22 @@ impl Sink for MemSink {
     fn write(&mut self, bytes: &[u8]) -> Result<usize, Trouble>
         ensures bound { IfOk result (λ n. n ≤ length bytes.now) }
         ensures progress { 0 < length bytes.now → IfOk result (λ n. 0 < n) }
-        ensures bytes { WriteAppends (Some (mem_sink_bytes self.old)) (Some (mem_sink_bytes self.new)) result bytes.now }
-        ensures failed { IsErrOf result Trouble.Failed → Rose (mem_sink_faults self.old) (mem_sink_faults self.new) }
+        ensures bytes { WriteAppends (Some (mem_sink_bytes self.old))
+            (Some (mem_sink_bytes self.new)) result bytes.now }
+        ensures failed { IsErrOf result Trouble.Failed
+            → Rose (mem_sink_faults self.old) (mem_sink_faults self.new) }
         ensures counted { mem_sink_faults self.old ≤ mem_sink_faults self.new }
 
-        ensures fails { IsErrOf result Trouble.Failed ↔ (Contains (mem_sink_fails self.old) (one_more (mem_sink_calls self.old)) ⊎ ((0 < length bytes.now) × (mem_sink_room self.old ≡ 0))) }
+        ensures fails { IsErrOf result Trouble.Failed
+            ↔ (Contains (mem_sink_fails self.old) (one_more (mem_sink_calls self.old))
+            ⊎ ((0 < length bytes.now) × (mem_sink_room self.old ≡ 0))) }
         ensures not_memory { ¬ IsErrOf result Trouble.Memory }
-        ensures amount { IfOk result (λ n. n ≡ min (mem_sink_piece self.old) (min (length bytes.now) (mem_sink_room self.old))) }
-        ensures same_size { mem_sink_room self.new + length (mem_sink_bytes self.new) ≡ mem_sink_room self.old + length (mem_sink_bytes self.old) }
-        ensures fault_counted { OnErr result (mem_sink_faults self.new ≡ one_more (mem_sink_faults self.old)) }
+        ensures amount { IfOk result (λ n. n ≡ min (mem_sink_piece self.old)
+            (min (length bytes.now) (mem_sink_room self.old))) }
+        ensures same_size { mem_sink_room self.new + length (mem_sink_bytes self.new)
+            ≡ mem_sink_room self.old + length (mem_sink_bytes self.old) }
+        ensures fault_counted { OnErr result
+            (mem_sink_faults self.new ≡ one_more (mem_sink_faults self.old)) }
         ensures no_fault { OnOk result (mem_sink_faults self.new ≡ mem_sink_faults self.old) }
         ensures call_counted { mem_sink_calls self.new ≡ one_more (mem_sink_calls self.old) }
         ensures same_piece { mem_sink_piece self.new ≡ mem_sink_piece self.old }

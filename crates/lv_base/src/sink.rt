@@ -48,7 +48,8 @@ pub enum WriteEnd {
 /// sink with some prefix of `bytes` appended.
 pub fn write_all<K: Sink>(sink: &mut K, bytes: &[u8]) -> Result<(), WriteEnd>
     ensures all { OnOk result (Appends (K.contents sink.old) (K.contents sink.new) bytes.now) }
-    ensures prefix { OnErr result (AppendsPrefix (K.contents sink.old) (K.contents sink.new) bytes.now) }
+    ensures prefix { OnErr result
+        (AppendsPrefix (K.contents sink.old) (K.contents sink.new) bytes.now) }
     ensures fault { IsErrOf result WriteEnd.Fault → Rose (K.faults sink.old) (K.faults sink.new) }
     ensures counted { K.faults sink.old ≤ K.faults sink.new }
 {

@@ -26,8 +26,8 @@ pub trait Source {
     /// How many faults were counted, from 0 to the greatest `u64`.
     ghost faults: { Self → ℕ };
 
-    /// How many bytes were read, from 0 to the greatest `u64`, where the count stays. It says how much came
-    /// also where the source doesn't tell its bytes.
+    /// How many bytes were read, from 0 to the greatest `u64`, where the count stays. It says how much
+    /// came also where the source doesn't tell its bytes.
     ghost bytes_read: { Self → ℕ };
 
     /// Takes the first bytes of what is left into the front of `buf`, and answers how many, at most
@@ -64,20 +64,24 @@ pub enum ReadEnd {
 /// # Errors
 ///
 /// `Fault` only where the source's count of faults rose in this call; `Long` exactly where more than
-/// `limit` bytes came; and `Memory`. Each leaves the source with some prefix of what was left taken: `Long`
-/// with more than `limit` bytes of it, the other two with at most so many. All this holds by the source's
-/// count of bytes where it doesn't tell them.
+/// `limit` bytes came; and `Memory`. Each leaves the source with some prefix of what was left taken:
+/// `Long` with more than `limit` bytes of it, the other two with at most so many. All this holds by the
+/// source's count of bytes where it doesn't tell them.
 #[tactic(auto, using(crate::proofs::WholeLemmas::reads))]
 pub fn read_all<S: Source>(alloc: Global, source: &mut S, limit: usize) -> Result<Vec<u8>, ReadEnd>
     ensures all { IfOk result (λ bytes. Takes bytes.items
-        (S.left source.old) (S.left source.new) (S.bytes_read source.old) (S.bytes_read source.new)) }
+        (S.left source.old) (S.left source.new)
+        (S.bytes_read source.old) (S.bytes_read source.new)) }
     ensures end { OnOk result (IsAtEnd (S.left source.new)) }
     ensures within { IfOk result (λ bytes. vec_len bytes ≤ limit) }
     ensures long { IsErrOf result ReadEnd.Long → TakesAbove limit
-        (S.left source.old) (S.left source.new) (S.bytes_read source.old) (S.bytes_read source.new) }
+        (S.left source.old) (S.left source.new)
+        (S.bytes_read source.old) (S.bytes_read source.new) }
     ensures short { OnErr result (¬ IsErrOf result ReadEnd.Long → TakesWithin limit
-        (S.left source.old) (S.left source.new) (S.bytes_read source.old) (S.bytes_read source.new)) }
-    ensures fault { IsErrOf result ReadEnd.Fault → Rose (S.faults source.old) (S.faults source.new) }
+        (S.left source.old) (S.left source.new)
+        (S.bytes_read source.old) (S.bytes_read source.new)) }
+    ensures fault { IsErrOf result ReadEnd.Fault
+        → Rose (S.faults source.old) (S.faults source.new) }
     ensures counted { S.faults source.old ≤ S.faults source.new }
 {
     let mut bytes = Vec::new(alloc);
@@ -102,7 +106,8 @@ fn next_piece<S: Source>(source: &mut S, piece: &mut [u8]) -> Result<usize, Read
     ensures bytes { ReadConsumes (S.left source.old) (S.left source.new) result piece.new }
     ensures bytes_counted { CountsRead (S.bytes_read source.old) (S.bytes_read source.new) result }
     ensures short { ¬ IsErrOf result ReadEnd.Long }
-    ensures fault { IsErrOf result ReadEnd.Fault → Rose (S.faults source.old) (S.faults source.new) }
+    ensures fault { IsErrOf result ReadEnd.Fault
+        → Rose (S.faults source.old) (S.faults source.new) }
     ensures counted { S.faults source.old ≤ S.faults source.new }
 {
     match source.read(piece) {

@@ -50,13 +50,17 @@ impl<R: Read> Source for StdSource<R> {
     /// at its greatest value.
     fn read(&mut self, buf: &mut [u8]) -> Result<usize, Trouble>
         ensures bound { IfOk result (λ n. n ≤ length buf.new) }
-        ensures bytes_counted { CountsRead (std_source_read self.old) (std_source_read self.new) result }
-        ensures failed { IsErrOf result Trouble.Failed → Rose (std_source_faults self.old) (std_source_faults self.new) }
+        ensures bytes_counted { CountsRead (std_source_read self.old)
+            (std_source_read self.new) result }
+        ensures failed { IsErrOf result Trouble.Failed
+            → Rose (std_source_faults self.old) (std_source_faults self.new) }
         ensures counted { std_source_faults self.old ≤ std_source_faults self.new }
 
-        ensures bytes { ReadConsumes (R.remaining (std_source_inner self.old)) (R.remaining (std_source_inner self.new)) result buf.new }
+        ensures bytes { ReadConsumes (R.remaining (std_source_inner self.old))
+            (R.remaining (std_source_inner self.new)) result buf.new }
         ensures not_memory { ¬ IsErrOf result Trouble.Memory }
-        ensures fault_counted { OnErr result (std_source_faults self.new ≡ one_more (std_source_faults self.old)) }
+        ensures fault_counted { OnErr result
+            (std_source_faults self.new ≡ one_more (std_source_faults self.old)) }
         ensures no_fault { OnOk result (std_source_faults self.new ≡ std_source_faults self.old) }
     {
         match self.inner.read(buf) {
@@ -107,12 +111,15 @@ impl<W: Write> Sink for StdSink<W> {
     fn write(&mut self, bytes: &[u8]) -> Result<usize, Trouble>
         ensures bound { IfOk result (λ n. n ≤ length bytes.now) }
         ensures progress { 0 < length bytes.now → IfOk result (λ n. 0 < n) }
-        ensures failed { IsErrOf result Trouble.Failed → Rose (std_sink_faults self.old) (std_sink_faults self.new) }
+        ensures failed { IsErrOf result Trouble.Failed
+            → Rose (std_sink_faults self.old) (std_sink_faults self.new) }
         ensures counted { std_sink_faults self.old ≤ std_sink_faults self.new }
 
-        ensures bytes { WriteAppends (W.contents (std_sink_inner self.old)) (W.contents (std_sink_inner self.new)) result bytes.now }
+        ensures bytes { WriteAppends (W.contents (std_sink_inner self.old))
+            (W.contents (std_sink_inner self.new)) result bytes.now }
         ensures not_memory { ¬ IsErrOf result Trouble.Memory }
-        ensures fault_counted { OnErr result (std_sink_faults self.new ≡ one_more (std_sink_faults self.old)) }
+        ensures fault_counted { OnErr result
+            (std_sink_faults self.new ≡ one_more (std_sink_faults self.old)) }
         ensures no_fault { OnOk result (std_sink_faults self.new ≡ std_sink_faults self.old) }
     {
         match self.inner.write(bytes) {

@@ -39,8 +39,10 @@ impl Source for VecSource {
     /// Reads as many bytes as `buf` has room for and the source has left. It never errs.
     fn read(&mut self, buf: &mut [u8]) -> Result<usize, Trouble>
         ensures bound { IfOk result (λ n. n ≤ length buf.new) }
-        ensures bytes { ReadConsumes (Some (vec_source_left self.old)) (Some (vec_source_left self.new)) result buf.new }
-        ensures bytes_counted { CountsRead (vec_source_read self.old) (vec_source_read self.new) result }
+        ensures bytes { ReadConsumes (Some (vec_source_left self.old))
+            (Some (vec_source_left self.new)) result buf.new }
+        ensures bytes_counted { CountsRead (vec_source_read self.old)
+            (vec_source_read self.new) result }
         ensures amount { result ≡ Ok (min (length buf.old) (length (vec_source_left self.old))) }
     {
         let n = copy_prefix(&self.bytes[self.taken..], buf);
@@ -100,7 +102,8 @@ impl Sink for VecSink {
     fn write(&mut self, bytes: &[u8]) -> Result<usize, Trouble>
         ensures bound { IfOk result (λ n. n ≤ length bytes.now) }
         ensures progress { 0 < length bytes.now → IfOk result (λ n. 0 < n) }
-        ensures bytes { WriteAppends (Some (vec_sink_bytes self.old)) (Some (vec_sink_bytes self.new)) result bytes.now }
+        ensures bytes { WriteAppends (Some (vec_sink_bytes self.old))
+            (Some (vec_sink_bytes self.new)) result bytes.now }
         ensures amount { IfOk result (λ n. n ≡ length bytes.now) }
         ensures failed { ¬ IsErrOf result Trouble.Failed }
     {

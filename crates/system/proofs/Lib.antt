@@ -1,6 +1,6 @@
-mod Bodies
-mod Maps
-mod Records
-mod Runs
-mod Sound
-mod Stack
+mod FramesBottomFirst
+mod FramesStandAtInstructions
+mod MapLemmas
+mod RecordsGoLast
+mod RunsInParts
+mod ValidBodies

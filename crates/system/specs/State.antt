@@ -1,16 +1,13 @@
 -- The state of the definition that a system stands for.
-use Rattle.std.specs.Prelude.{◌≡◌, ℕ, List, Option, map, reverse, option_to_list}
+use Rattle.std.specs.Prelude.{◌≡◌, ℕ, List, map, reverse}
 use Rattle.meaning.specs.declared.event.Event.{Event}
-use Rattle.meaning.specs.declared.small.program.Instr.{Instr}
 use Rattle.meaning.specs.declared.small.program.Program.{Program}
 use Rattle.meaning.specs.small.Machine as model
-use Rattle.meaning.specs.small.Program.{IsFineBehind}
-use Rattle.meaning.specs.small.Run.{Move, turns, state_after, opening}
+use Rattle.meaning.specs.small.Run.{state_after, opening}
 use Rattle.system.specs.declared.frame.Frame.{Frame}
 use Rattle.system.specs.declared.machine.System.{System}
 use Rattle.system.specs.declared.memories.Memories.{Memories}
 use Rattle.system.specs.declared.thread.Frames.{Frames}
-use Rattle.system.specs.declared.thread.Next.{Next}
 use Rattle.system.specs.declared.thread.Thread.{Thread}
 use Rattle.system.specs.declared.thread.Thread.TheVariants.{Running, Ended, Stopped}
 
@@ -29,17 +26,9 @@ thread_of (Running frames) = model.Running (top_of frames) (below_of frames)
 thread_of Ended = model.Ended
 thread_of (Stopped stop) = model.Stopped stop
 
-abbrev pub next_of : Next → model.Next
-next_of next = record { thread = thread_of next.thread; notes = option_to_list next.note }
-
 -- these memories with a thread
 abbrev pub state_with : Memories → model.Thread → model.State
 state_with memories thread = record { store = memories.store; memory = memories.ordinary; thread = thread }
-
--- a turn of the thread with these frames
-abbrev pub turn_of : Program → Memories → Frames → Move
-turn_of program memories frames =
-    let thread = model.Running (top_of frames) (below_of frames) in turns program (state_with memories thread) thread
 
 -- what the system stands for
 abbrev pub state_of : System → model.State
@@ -53,7 +42,3 @@ threads_of s = s.threads
 abbrev pub IsRunOf : Program → System → Type 0
 IsRunOf program s =
     (events : List Event) × (state_of s ≡ state_after program (threads_of s) (opening program) events)
-
--- the instruction names what there is in the program, behind some other or as the first
-abbrev pub IsFine : Program → Instr → Type 0
-IsFine program i = (before : Option Instr) × IsFineBehind program before i

@@ -1,6 +1,8 @@
+//! The action of the next instruction, with the tests before an access and a call.
 ghost use Rattle.std.specs.Prelude.{◌≡◌, ◌<◌, length};
 ghost use Rattle.meaning.specs.small.Machine.{touch_action, load_action, store_action, call_action, indirect_action, return_action, next_action};
-ghost use Rattle.system.specs.State.{IsFine, top_of, below_of};
+ghost use Rattle.system.specs.State.{top_of, below_of};
+ghost use Rattle.system.specs.inner.Turn.{IsFine};
 
 use super::number::{address_of, entry_of, number_of};
 use super::thread::Frames;

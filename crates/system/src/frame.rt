@@ -1,3 +1,4 @@
+//! One frame of a thread.
 ghost use Rattle.std.specs.Prelude.{◌≡◌, ◌<◌};
 ghost use Rattle.meaning.specs.small.Machine.{opened, register};
 ghost use Rattle.system.specs.State.{frame_of};

@@ -10,8 +10,6 @@ mod memories;
 mod number;
 mod record;
 mod resume;
-#[cfg(test)]
-mod tests;
 mod thread;
 mod turn;
 

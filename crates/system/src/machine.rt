@@ -1,3 +1,4 @@
+//! The system, and what each event does to it.
 use super::frame::Frame;
 use super::memories::Memories;
 use super::record::record_turn;

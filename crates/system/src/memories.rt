@@ -1,3 +1,4 @@
+//! The safe store and ordinary memory, and how they answer an action.
 ghost use Rattle.std.specs.Prelude.{◌≡◌, OnOk};
 ghost use Rattle.std.specs.FinMap as map;
 ghost use Rattle.meaning.specs.small.Machine as model;

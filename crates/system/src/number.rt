@@ -1,3 +1,4 @@
+//! The numbers of values, and the entries that are put for them.
 ghost use Rattle.std.specs.Prelude.{◌≡◌};
 ghost use Rattle.meaning.specs.small.Machine.{number_of, low_word, address_of, entry_of, loaded};
 

@@ -1,3 +1,4 @@
+//! What a turn adds to the trace.
 ghost use Rattle.std.specs.Prelude.{◌≡◌, ◌++◌, ◌∷◌, [], map, OnOk, OnErr, List, option_to_list};
 ghost use Rattle.meaning.specs.small.Trace.{added, added_all, did, or_one_step};
 ghost use Rattle.meaning.specs.declared.small.record.Record.{Record};

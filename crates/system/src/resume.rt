@@ -1,8 +1,10 @@
+//! What becomes of a thread when its action is answered.
 ghost use Rattle.std.specs.Prelude.{◌≡◌, ◌<◌, length, Some, IsSome, IfOk};
 ghost use Rattle.meaning.specs.declared.action.Reply.{Reply};
 ghost use Rattle.meaning.specs.small.Program.{IsValid};
 ghost use Rattle.meaning.specs.small.Machine.{instruction_at, address_value, global_type, instruction_before, loaded_from, called, reply_value, touched, resumed, moved};
-ghost use Rattle.system.specs.State.{IsFine, frame_of, top_of, below_of, next_of};
+ghost use Rattle.system.specs.State.{frame_of, top_of, below_of};
+ghost use Rattle.system.specs.inner.Turn.{IsFine, next_of};
 
 use super::frame::Frame;
 use super::number::{address_of, loaded};

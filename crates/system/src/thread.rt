@@ -1,6 +1,8 @@
+//! The frames of a thread, and how it goes on, stops and ends.
 ghost use Rattle.std.specs.Prelude.{◌≡◌, ◌+◌, ◌<◌, length, IfOk};
 ghost use Rattle.meaning.specs.small.Machine.{stops, goes_on, defines, enters, leaves};
-ghost use Rattle.system.specs.State.{top_of, below_of, next_of};
+ghost use Rattle.system.specs.State.{top_of, below_of};
+ghost use Rattle.system.specs.inner.Turn.{next_of};
 
 use super::frame::Frame;
 use meaning::{Note, Stop, Value};

@@ -1,8 +1,10 @@
+//! A whole turn of a running thread.
 ghost use Rattle.std.specs.Prelude.{◌≡◌, ◌∷◌, [], ◌<◌, length, IsSome, IfOk, OnOk, OnErr};
 ghost use Rattle.meaning.specs.small.Machine.{instruction_at};
 ghost use Rattle.meaning.specs.small.Program.{IsValid};
 ghost use Rattle.meaning.specs.small.Trace.{traced};
-ghost use Rattle.system.specs.State.{state_with, thread_of, turn_of};
+ghost use Rattle.system.specs.State.{state_with, thread_of};
+ghost use Rattle.system.specs.inner.Turn.{turn_of};
 
 use super::action::next_action;
 use super::memories::Memories;

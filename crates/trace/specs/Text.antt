@@ -33,7 +33,8 @@ line first fields = first ++ spaced fields ++ 10 ∷ []
 abbrev pub entry_fields : Option Entry → Fields
 entry_fields None = codes "none" ∷ []
 entry_fields (Some (entry.Bare v)) = codes "bare" ∷ decimal v ∷ []
-entry_fields (Some (entry.Based value lower upper id)) = codes "based" ∷ decimal value ∷ decimal lower ∷ decimal upper ∷ decimal id ∷ []
+entry_fields (Some (entry.Based value lower upper id)) =
+    codes "based" ∷ decimal value ∷ decimal lower ∷ decimal upper ∷ decimal id ∷ []
 entry_fields (Some (entry.Code f)) = codes "code" ∷ decimal f ∷ []
 
 abbrev pub flag_field : Bool → List ℕ
@@ -82,7 +83,8 @@ stop_field Wild = codes "wild"
 
 abbrev pub note_fields : Note → Fields
 note_fields (note.Call depth f from) = codes "call" ∷ decimal depth ∷ decimal f ∷ decimal from ∷ []
-note_fields (note.Indirect depth f from place) = codes "icall" ∷ decimal depth ∷ decimal f ∷ decimal from ∷ place_fields place
+note_fields (note.Indirect depth f from place) =
+    codes "icall" ∷ decimal depth ∷ decimal f ∷ decimal from ∷ place_fields place
 note_fields (note.Start f at) = codes "start" ∷ decimal f ∷ codes "at" ∷ decimal at ∷ []
 note_fields (note.Return depth f to) = codes "return" ∷ decimal depth ∷ decimal f ∷ decimal to ∷ []
 note_fields note.End = codes "end" ∷ []

@@ -47,7 +47,8 @@ pub(crate) fn push_fields(text: &mut Vec<u8>, fields: &[Field]) -> Result<(), Al
 
 /// Appends a line: its first field, the others and an LF.
 pub(crate) fn push_line(text: &mut Vec<u8>, t: u8, fields: &[Field]) -> Result<(), AllocError>
-    ensures { OnOk result (text.new.items ≡ text.old.items ++ line (decimal t) (map field_text fields.now)) }
+    ensures { OnOk result (text.new.items ≡ text.old.items
+        ++ line (decimal t) (map field_text fields.now)) }
 {
     push_count(text, u64::from(t))?;
     push_fields(text, fields)?;

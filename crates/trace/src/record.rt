@@ -17,7 +17,8 @@ fn push_entry(
     address: u32,
     entry: Option<Entry>,
 ) -> Result<(), AllocError>
-    ensures { OnOk result (text.new.items ≡ text.old.items ++ line (decimal t) (word.now ∷ decimal address ∷ entry_fields entry)) }
+    ensures { OnOk result (text.new.items ≡ text.old.items
+        ++ line (decimal t) (word.now ∷ decimal address ∷ entry_fields entry)) }
 {
     let word = Field::Word(word);
     let address = Field::Count(u64::from(address));
@@ -71,7 +72,8 @@ fn push_word(
     address: u32,
     v: i64,
 ) -> Result<(), AllocError>
-    ensures { OnOk result (text.new.items ≡ text.old.items ++ line (decimal t) (word.now ∷ decimal address ∷ signed_decimal v ∷ [])) }
+    ensures { OnOk result (text.new.items ≡ text.old.items
+        ++ line (decimal t) (word.now ∷ decimal address ∷ signed_decimal v ∷ [])) }
 {
     let fields = [
         Field::Word(word),
@@ -89,7 +91,8 @@ fn push_flag(
     id: u32,
     flag: bool,
 ) -> Result<(), AllocError>
-    ensures { OnOk result (text.new.items ≡ text.old.items ++ line (decimal t) (word.now ∷ decimal id ∷ flag_field flag ∷ [])) }
+    ensures { OnOk result (text.new.items ≡ text.old.items
+        ++ line (decimal t) (word.now ∷ decimal id ∷ flag_field flag ∷ [])) }
 {
     let answer: &'static [u8] = if flag { b"yes" } else { b"no" };
     let fields = [
@@ -112,7 +115,8 @@ fn optional(n: Option<u32>) -> Field
 
 /// Appends the line of an action with its reply, where a turn makes such a pair.
 fn push_did(text: &mut Vec<u8>, t: u8, action: Action, reply: Reply) -> Result<(), AllocError>
-    ensures { OnOk result (text.new.items ≡ text.old.items ++ line (decimal t) (did_fields action reply)) }
+    ensures { OnOk result (text.new.items ≡ text.old.items
+        ++ line (decimal t) (did_fields action reply)) }
 {
     match (action, reply) {
         (Action::Get(a), Reply::Found(entry)) => push_entry(text, t, b"get", a, entry),
@@ -157,7 +161,8 @@ fn push_indirect(
     from: u32,
     place: Place,
 ) -> Result<(), AllocError>
-    ensures { OnOk result (text.new.items ≡ text.old.items ++ line (decimal t) (note_fields (Note.Indirect depth f from place))) }
+    ensures { OnOk result (text.new.items ≡ text.old.items
+        ++ line (decimal t) (note_fields (Note.Indirect depth f from place))) }
 {
     let word = Field::Word(b"icall");
     let depth = Field::Count(u64::from(depth));
@@ -188,7 +193,8 @@ fn push_three(
     numbers: [u32; 3],
 ) -> Result<(), AllocError>
     ensures { OnOk result (text.new.items ≡ text.old.items ++ line (decimal t)
-        (word.now ∷ decimal (slice_index numbers 0) ∷ decimal (slice_index numbers 1) ∷ decimal (slice_index numbers 2) ∷ [])) }
+        (word.now ∷ decimal (slice_index numbers 0) ∷ decimal (slice_index numbers 1)
+        ∷ decimal (slice_index numbers 2) ∷ [])) }
 {
     let [first, second, third] = numbers;
     let fields = [

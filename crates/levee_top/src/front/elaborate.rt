@@ -1,3 +1,4 @@
+//! From the items of a source to its program.
 ghost use Rattle.std.specs.Prelude.{◌≡◌, ◌∷◌, [], ◌<◌, ◌^◌, length, Some, IfOk, OnOk, IsErrOf};
 ghost use Rattle.std.specs.Option.{option_map};
 ghost use Rattle.levee_top.specs.Elaborate.{set_number_code, set_function_code, invoke_code, print_global_code, void_function, main_function, entry_function, with_entry};

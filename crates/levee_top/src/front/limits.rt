@@ -1,3 +1,4 @@
+//! The limits of a program.
 ghost use Rattle.std.specs.Prelude.{◌≡◌, ◌≤◌, ◌↔◌, IsTrue, length};
 ghost use Rattle.std.specs.List.{All};
 ghost use Rattle.levee_top.specs.Elaborate.{IsWithinLimits};

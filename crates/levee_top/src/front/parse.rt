@@ -1,3 +1,4 @@
+//! From texts to the items and statements of a source.
 ghost use Rattle.std.specs.Prelude.{◌≡◌, IfOk};
 ghost use Rattle.std.specs.Option.{option_map};
 ghost use Rattle.levee_top.specs.inner.Reading.{Gives, behind, first_of, assignment_at, printed_at, call_at, statement_at, GivesBy, GivesWithRest, ReadsBody, heading_at, main_at, main_end_at, integer_at, pointer_at, function_at, ReadsItem, ReadsItems, ReadsSource};

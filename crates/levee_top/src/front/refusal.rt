@@ -1,3 +1,4 @@
+//! Why a source has no program.
 ghost use Rattle.std.specs.Prelude.{◌≡◌};
 ghost use Rattle.levee_top.specs.declared.front.refusal.SourceRefusal.TheVariants.{Memory};
 

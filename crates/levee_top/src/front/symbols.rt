@@ -1,3 +1,4 @@
+//! What names were declared as.
 ghost use Rattle.std.specs.Prelude.{◌≡◌, List, ℕ, Some, None, cond, OnOk, IsErrOf, IfErr, IsSome};
 ghost use Rattle.std.specs.Str.{bytes_eq};
 ghost use Rattle.levee_top.specs.inner.Symbols.{symbol_of, IsDeclared};

@@ -1,3 +1,4 @@
+//! From bytes to words and marks.
 ghost use Rattle.std.specs.Prelude.{◌≡◌, ◌≢◌, ◌<◌, ◌≤◌, ◌∷◌, ℕ, true, false, length, take, drop, slice_index, MatchOption};
 ghost use Rattle.std.specs.Option.{option_map};
 ghost use Rattle.levee_top.specs.Source.{is_white, is_mark, is_word_byte, is_name_start, texts_of};

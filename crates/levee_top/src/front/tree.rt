@@ -1,3 +1,4 @@
+//! The items and statements of a source.
 use c_types::Name;
 use sqlite_items::Items;
 

@@ -1,5 +1,5 @@
 use Rattle.std.proofs.Common.{sym}
-use Rattle.system.proofs.Stack.{return_action-above}
+use Rattle.system.proofs.FramesBottomFirst.{return_action-above}
 use Rattle.system.proofs.action.return_action.Goals as goal
 
 pub returns-else-is_empty : goal.returns-else-is_empty

@@ -1,4 +1,4 @@
-use Rattle.system.proofs.Records.{added-single, did-single}
+use Rattle.system.proofs.RecordsGoLast.{added-single, did-single}
 use Rattle.system.proofs.record.record_turn.Goals as goal
 
 pub record_both-requires : goal.record_both-requires

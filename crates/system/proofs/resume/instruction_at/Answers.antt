@@ -1,6 +1,6 @@
 use Rattle.std.proofs.Common.{◌≡◌, Some, get_or}
 use Rattle.meaning.specs.small.Machine.{instruction_at}
-use Rattle.system.proofs.Bodies.{fine_at, place_at, instruction_read}
+use Rattle.system.proofs.ValidBodies.{fine_at, place_at, instruction_read}
 use Rattle.system.proofs.resume.instruction_at.Goals as goal
 
 pub returns : goal.returns

@@ -1,6 +1,6 @@
 use Rattle.std.proofs.Common.{ap, sym, ◌∙◌}
 use Rattle.std.specs.FinMap as map
-use Rattle.system.proofs.Maps.{get-value_at}
+use Rattle.system.proofs.MapLemmas.{get-value_at}
 use Rattle.system.proofs.address_map.AddressMap.get.Goals as goal
 
 pub returns : goal.returns

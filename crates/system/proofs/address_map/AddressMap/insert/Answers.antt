@@ -1,6 +1,6 @@
 use Rattle.std.proofs.Common.{ap, ◌∙◌}
 use Rattle.std.specs.FinMap as map
-use Rattle.system.proofs.Maps.{insert-value_at}
+use Rattle.system.proofs.MapLemmas.{insert-value_at}
 use Rattle.system.proofs.address_map.AddressMap.insert.Goals as goal
 
 pub returns-clause-ok : goal.returns-clause-ok

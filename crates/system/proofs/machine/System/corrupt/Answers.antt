@@ -4,8 +4,8 @@ use Rattle.std.proofs.lemmas.Int.{to_z-of_z}
 use Rattle.meaning.specs.declared.event.Event.TheVariants.{Corrupt}
 use Rattle.meaning.specs.declared.small.record.Record.TheVariants.{Wrote}
 use Rattle.system.specs.State.{state_of}
-use Rattle.system.proofs.Records.{added-single}
-use Rattle.system.proofs.Runs.{IsRunOf-after}
+use Rattle.system.proofs.RecordsGoLast.{added-single}
+use Rattle.system.proofs.RunsInParts.{IsRunOf-after}
 use Rattle.system.proofs.machine.System.corrupt.Goals as goal
 
 pub returns-in-Err-clause-err : goal.returns-in-Err-clause-err

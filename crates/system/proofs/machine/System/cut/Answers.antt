@@ -3,7 +3,7 @@ use Rattle.std.proofs.lemmas.Grind.{common_steps}
 use Rattle.meaning.specs.declared.event.Event.TheVariants.{Cut}
 use Rattle.meaning.specs.declared.value.Stop.TheVariants.{Budget}
 use Rattle.system.specs.declared.thread.Thread.TheVariants.{Stopped}
-use Rattle.system.proofs.Runs.{IsRunOf-after}
+use Rattle.system.proofs.RunsInParts.{IsRunOf-after}
 use Rattle.system.proofs.machine.System.cut.Goals as goal
 
 pub returns-in_ok-add_record-clause-ok : goal.returns-in_ok-add_record-clause-ok

@@ -2,7 +2,7 @@ use Rattle.std.proofs.Common.{◌≡◌, ◌+◌, [], ◌∷◌, ◌++◌, get_o
 use Rattle.std.proofs.lemmas.List.{take_more}
 use Rattle.meaning.specs.declared.event.Event.TheVariants.{Turn}
 use Rattle.system.specs.State.{state_of, threads_of}
-use Rattle.system.proofs.Runs.{state_after-more, traced-more}
+use Rattle.system.proofs.RunsInParts.{state_after-more, traced-more}
 use Rattle.system.proofs.machine.System.run.Goals as goal
 
 pub loop-event-preserved : goal.loop-event-preserved

@@ -1,7 +1,7 @@
 use Rattle.std.proofs.Common.{◌≡◌, arith}
 use Rattle.system.specs.declared.thread.Thread.TheVariants.{Running}
-use Rattle.system.proofs.Sound.{IsRunOf-running}
-use Rattle.system.proofs.Stack.{length-below_of}
+use Rattle.system.proofs.FramesStandAtInstructions.{IsRunOf-running}
+use Rattle.system.proofs.FramesBottomFirst.{length-below_of}
 use Rattle.system.proofs.machine.System.run_thread.Goals as goal
 
 pub act-requires-clause-there : goal.act-requires-clause-there

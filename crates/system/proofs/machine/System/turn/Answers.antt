@@ -2,7 +2,7 @@ use Rattle.std.proofs.Common.{[], ◌∷◌, arith}
 use Rattle.std.proofs.lemmas.Grind.{common_steps}
 use Rattle.std.proofs.lemmas.Result.{on_ok_weaker}
 use Rattle.meaning.specs.declared.event.Event.TheVariants.{Turn}
-use Rattle.system.proofs.Runs.{IsRunOf-after}
+use Rattle.system.proofs.RunsInParts.{IsRunOf-after}
 use Rattle.system.proofs.machine.System.turn.Goals as goal
 
 pub returns-then-t-eq0-clause-ok : goal.returns-then-t-eq0-clause-ok

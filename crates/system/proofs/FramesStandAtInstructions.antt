@@ -22,7 +22,7 @@ use Rattle.system.specs.declared.machine.System.{System}
 use Rattle.system.specs.declared.thread.Frames.{Frames}
 use Rattle.system.specs.declared.thread.Thread.TheVariants as run
 use Rattle.system.specs.State.{state_of, thread_of, threads_of, IsRunOf}
-use Rattle.system.proofs.Bodies.{fine_at, fine_body}
+use Rattle.system.proofs.ValidBodies.{fine_at, fine_body}
 
 -- there is an instruction at a frame's place
 abbrev pub IsAt : Program → Frame → Type 0

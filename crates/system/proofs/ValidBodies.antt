@@ -6,7 +6,7 @@ use Rattle.meaning.specs.declared.small.program.Function.{Function}
 use Rattle.meaning.specs.declared.small.program.Program.{Program}
 use Rattle.meaning.specs.small.Machine.{body_of, instruction_at}
 use Rattle.meaning.specs.small.Program.{AreFineBehind, IsValid}
-use Rattle.system.specs.State.{IsFine}
+use Rattle.system.specs.inner.Turn.{IsFine}
 
 -- each instruction of a list that is fine behind another is fine
 fine_in : (program : Program) (before : Option Instr) (is : List Instr) (place : ℕ) (i : Instr)

@@ -1,12 +1,12 @@
 ghost use Rattle.std.specs.Prelude.{◌≡◌, ◌<◌, [], ◌∷◌, None, IfOk};
 ghost use Rattle.meaning.specs.small.Program.{IsValid};
 
-use super::System;
 use meaning::small::{Function, GlobalType, Instr, Program, Record, ResultType, Trace};
 use meaning::{Action, Check, Entry, Event, Note, Place, Reply, Stop};
 use sqlite_items::Items;
 use std::alloc::{AllocError, Global};
 use std::test::Fail;
+use system::System;
 
 const POINTER: GlobalType = GlobalType::Pointer;
 

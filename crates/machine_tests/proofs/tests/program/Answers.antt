@@ -6,7 +6,7 @@ use Rattle.meaning.specs.declared.small.program.Instr.TheVariants.{Const, AddrG,
 use Rattle.meaning.specs.declared.small.program.Program.{Program}
 use Rattle.meaning.specs.declared.small.program.ResultType.TheVariants.{Void, Int}
 use Rattle.meaning.specs.small.Program.{IsFineFunction, IsValid}
-use Rattle.system.proofs.tests.program.Goals as goal
+use Rattle.machine_tests.proofs.tests.program.Goals as goal
 
 abbrev printer : ℤ → Function
 printer v = record { result = Void; body = Const 0 v ∷ Print 0 ∷ Return None ∷ [] }

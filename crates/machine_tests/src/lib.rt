@@ -1,0 +1,5 @@
+//! Tests of the machine, by its public calls.
+#![tactic(auto)]
+
+#[cfg(test)]
+mod tests;
