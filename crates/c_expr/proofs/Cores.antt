@@ -5,7 +5,7 @@ use Rattle.std.specs.List.{Contains}
 use Rattle.c_tokens.specs.declared.token.Kind.{Kind}
 use Rattle.c_tokens.specs.declared.token.Kind.TheVariants.{Word, Name, Number, Text, Mark}
 use Rattle.c_tokens.specs.declared.token.Mark.TheVariants as mark
-use Rattle.c_tree.specs.declared.expression.Abstract.{Abstract}
+use Rattle.c_tree.specs.declared.expression.AbstractDeclarator.{AbstractDeclarator}
 use Rattle.c_tree.specs.declared.expression.Declarator.{Declarator}
 use Rattle.c_tree.specs.declared.expression.Direct.{Direct}
 use Rattle.c_tree.specs.declared.expression.Param.{Param}
@@ -87,13 +87,13 @@ suffixes_core : {names : List (List ℕ)} {h : ℕ} {ts : Kinds} {ss : List Suff
 suffixes_core (SuffixesRead.no_suffix h ts ss hi is si) rest b = core_same _ rest is b
 suffixes_core (SuffixesRead.more_suffixes h ts ss s others hs ho sts os hi is si read more) rest b = core_same _ rest is (core_append _ sts os rest (suffix_core read (os ++ rest)))
 
-pub AbstractForm-core : {names : List (List ℕ)} {h stars : ℕ} {ts : Kinds} {a : Abstract} → AbstractForm names h stars ts a → (rest : Kinds) → Begins (NotFree names) (core rest) → Begins (NotFree names) (core (ts ++ rest))
+pub AbstractForm-core : {names : List (List ℕ)} {h stars : ℕ} {ts : Kinds} {a : AbstractDeclarator} → AbstractForm names h stars ts a → (rest : Kinds) → Begins (NotFree names) (core rest) → Begins (NotFree names) (core (ts ++ rest))
 AbstractForm-core (AbstractForm.simple h stars ts a suffixes ss is ai read) rest b = core_same _ rest is (core_append _ (star_kinds stars) ss rest (core_stars _ stars (ss ++ rest) (suffixes_core read rest b)))
 AbstractForm-core {names} (AbstractForm.nested h stars ts a suffixes inside inner_stars hi hs inner ss hh has some is ai formed read) rest b =
     core_same _ rest is (core_append _ (star_kinds stars ++ wrapped 1 inner) ss rest (core_append _ (star_kinds stars) (wrapped 1 inner) (ss ++ rest)
     (core_stars _ stars (wrapped 1 inner ++ (ss ++ rest)) (core_append (NotFree names) inner (Mark mark.RightParenthesis ∷ []) (ss ++ rest) (AbstractForm-core formed (Mark mark.RightParenthesis ∷ (ss ++ rest)) (λ x e. cc))))))
 
-pub AbstractReads-core : {names : List (List ℕ)} {h : ℕ} {ts : Kinds} {a : Abstract} → AbstractReads names h ts a → (rest : Kinds) → Begins (NotFree names) (core rest) → Begins (NotFree names) (core (ts ++ rest))
+pub AbstractReads-core : {names : List (List ℕ)} {h : ℕ} {ts : Kinds} {a : AbstractDeclarator} → AbstractReads names h ts a → (rest : Kinds) → Begins (NotFree names) (core rest) → Begins (NotFree names) (core (ts ++ rest))
 AbstractReads-core (AbstractReads.open_form h ts a stars hf hi formed) rest b = AbstractForm-core formed rest b
 AbstractReads-core {names} (AbstractReads.in_parentheses h ts a stars hf inner hi some is formed) rest b =
     core_same _ rest is (core_append (NotFree names) inner (Mark mark.RightParenthesis ∷ []) rest (AbstractForm-core formed (Mark mark.RightParenthesis ∷ rest) (λ x e. cc)))
@@ -103,5 +103,5 @@ begins_apart names x [] f n = f
 begins_apart names x (k ∷ ks) f n = f.1 (n x f.0)
 
 -- no text begins both with a declarator of a name and with one without, whatever that ends before
-pub named_apart : {names : List (List ℕ)} {hd ha : ℕ} {x : List ℕ} {ds ats : Kinds} {d : Declarator} {a : Abstract} (y z : Kinds) → DeclaratorReads names hd x ds d → AbstractReads names ha ats a → Begins (NotFree names) (core z) → ds ++ y ≡ ats ++ z → ⊥
+pub named_apart : {names : List (List ℕ)} {hd ha : ℕ} {x : List ℕ} {ds ats : Kinds} {d : Declarator} {a : AbstractDeclarator} (y z : Kinds) → DeclaratorReads names hd x ds d → AbstractReads names ha ats a → Begins (NotFree names) (core z) → ds ++ y ≡ ats ++ z → ⊥
 named_apart {names} {x = x} {ds} y z d a ends is = begins_apart names x (core (ds ++ y)) (DeclaratorReads-core d y) (subst (λ ks. Begins (NotFree names) (core ks)) (sym is) (AbstractReads-core a z ends))

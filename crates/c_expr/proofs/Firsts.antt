@@ -11,8 +11,8 @@ use Rattle.c_tokens.specs.declared.token.Mark.TheVariants as mark
 use Rattle.c_tree.specs.declared.expression.Expr.{Expr}
 use Rattle.c_tree.specs.declared.expression.Spec.{Spec}
 use Rattle.c_tree.specs.declared.expression.TypeWord.{TypeWord}
-use Rattle.c_tree.specs.declared.expression.UnaryOperator.{UnaryOperator}
-use Rattle.c_tree.specs.declared.expression.UnaryOperator.TheVariants as unary
+use Rattle.c_tree.specs.declared.operator.UnaryOperator.{UnaryOperator}
+use Rattle.c_tree.specs.declared.operator.UnaryOperator.TheVariants as unary
 use Rattle.c_tree.specs.Marks.{Kinds, wrapped, unary_mark}
 use Rattle.c_tree.specs.Grammar.{IsFree, SpecReads, TypeWordReads, ExprReads, ExprForm}
 
@@ -96,7 +96,7 @@ mutual
   ExprForm-begins (ExprForm.arrow level h ts e a x ha ats l hi free is ei left) = Begins-same _ is (Begins-append _ ats _ (ExprReads-begins left))
   ExprForm-begins (ExprForm.post_increment level h ts e a ha ats l hi is ei left) = Begins-same _ is (Begins-append _ ats _ (ExprReads-begins left))
   ExprForm-begins (ExprForm.post_decrement level h ts e a ha ats l hi is ei left) = Begins-same _ is (Begins-append _ ats _ (ExprReads-begins left))
-  ExprForm-begins (ExprForm.name level h ts e x l hi free is ei) = Begins-same _ is free
+  ExprForm-begins (ExprForm.identifier level h ts e x l hi free is ei) = Begins-same _ is free
   ExprForm-begins (ExprForm.number level h ts e n l hi is ei) = Begins-same _ is tt
   ExprForm-begins (ExprForm.text level h ts e bytes l hi is ei) = Begins-same _ is tt
 

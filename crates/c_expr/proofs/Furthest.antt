@@ -94,7 +94,7 @@ form_tall (ExprForm.member level h ts e a x ha ats l hi free is ei left) = omega
 form_tall (ExprForm.arrow level h ts e a x ha ats l hi free is ei left) = omega arith
 form_tall (ExprForm.post_increment level h ts e a ha ats l hi is ei left) = omega arith
 form_tall (ExprForm.post_decrement level h ts e a ha ats l hi is ei left) = omega arith
-form_tall (ExprForm.name level h ts e x l hi free is ei) = omega arith
+form_tall (ExprForm.identifier level h ts e x l hi free is ei) = omega arith
 form_tall (ExprForm.number level h ts e m l hi is ei) = omega arith
 form_tall (ExprForm.text level h ts e bytes l hi is ei) = omega arith
 

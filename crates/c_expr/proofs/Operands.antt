@@ -4,8 +4,8 @@ use Rattle.std.proofs.lemmas.Bool.{lt-leb}
 use Rattle.c_tokens.specs.declared.token.Kind.{Kind}
 use Rattle.c_tokens.specs.declared.token.Kind.TheVariants.{Mark}
 use Rattle.c_tokens.specs.declared.token.Mark.TheVariants as mark
-use Rattle.c_tree.specs.declared.expression.BinaryOperator.{BinaryOperator}
-use Rattle.c_tree.specs.declared.expression.BinaryOperator.TheVariants as binary
+use Rattle.c_tree.specs.declared.operator.BinaryOperator.{BinaryOperator}
+use Rattle.c_tree.specs.declared.operator.BinaryOperator.TheVariants as binary
 use Rattle.c_tree.specs.Marks.{Kinds, greatest_pairs, assign_level, binary_level}
 use Rattle.c_expr.specs.declared.operand.Continuation.{Continuation}
 use Rattle.c_expr.specs.declared.operand.Continuation.TheVariants as goes
@@ -47,9 +47,9 @@ clear_above level least ts le clear c is = let p = clear c is in (λ h. omega (a
 binary_between : (op : BinaryOperator) → (2 ≤ binary_level op) × (binary_level op ≤ 11)
 binary_between binary.LogicalOr = (omega arith, omega arith)
 binary_between binary.LogicalAnd = (omega arith, omega arith)
-binary_between binary.Or = (omega arith, omega arith)
-binary_between binary.ExclusiveOr = (omega arith, omega arith)
-binary_between binary.And = (omega arith, omega arith)
+binary_between binary.BitwiseOr = (omega arith, omega arith)
+binary_between binary.BitwiseExclusiveOr = (omega arith, omega arith)
+binary_between binary.BitwiseAnd = (omega arith, omega arith)
 binary_between binary.Equal = (omega arith, omega arith)
 binary_between binary.NotEqual = (omega arith, omega arith)
 binary_between binary.Less = (omega arith, omega arith)

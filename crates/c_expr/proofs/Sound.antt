@@ -1,7 +1,7 @@
 -- What the readers answer is of the grammar.
 use Rattle.std.proofs.Common.{◌≡◌, ℕ, zero, suc, Bool, List, [], ◌++◌, Some}
 use Rattle.c_tokens.specs.declared.token.Mark.TheVariants as mark
-use Rattle.c_tree.specs.declared.expression.Member.{Member}
+use Rattle.c_tree.specs.declared.expression.MemberDecl.{MemberDecl}
 use Rattle.c_tree.specs.Marks.{Kinds}
 use Rattle.c_tree.specs.Grammar.{SpecReads, DirectReads, AbstractReads}
 use Rattle.c_expr.specs.declared.brackets.Bracketed.{Bracketed}
@@ -27,7 +27,7 @@ nothing_sound names = record {
 }
 
 -- so nothing of the least depth has a struct's body
-no_members : (names : List (List ℕ)) (k : ℕ) (found : List Member) (h : ℕ) (ts : Kinds) (q : Tall (List Member) × Kinds) → members_from names nothing k found h ts ≡ Some q → ⊥
+no_members : (names : List (List ℕ)) (k : ℕ) (found : List MemberDecl) (h : ℕ) (ts : Kinds) (q : Tall (List MemberDecl) × Kinds) → members_from names nothing k found h ts ≡ Some q → ⊥
 unfolding members_from member
 no_members names zero found h ts q is = cc
 no_members names (suc k) found h ts q is = cc

@@ -8,8 +8,8 @@ use Rattle.c_tokens.specs.declared.token.Kind.{Kind}
 use Rattle.c_tokens.specs.declared.token.Kind.TheVariants.{Word, Name, Number, Text, Mark}
 use Rattle.c_tokens.specs.declared.token.Mark.{Mark as MarkName}
 use Rattle.c_tokens.specs.declared.token.Mark.TheVariants as mark
-use Rattle.c_tree.specs.declared.expression.UnaryOperator.{UnaryOperator}
-use Rattle.c_tree.specs.declared.expression.UnaryOperator.TheVariants as unary
+use Rattle.c_tree.specs.declared.operator.UnaryOperator.{UnaryOperator}
+use Rattle.c_tree.specs.declared.operator.UnaryOperator.TheVariants as unary
 use Rattle.c_tree.specs.declared.expression.Expr.{Expr}
 use Rattle.c_tree.specs.Marks.{Kinds, wrapped, greatest_pairs, unary_mark, assign_level, cast_level, unary_level, primary_level}
 use Rattle.c_tree.specs.Grammar.{ExprReads, ExprForm}
@@ -181,7 +181,7 @@ module _ (names : List (List ℕ)) (n : ℕ) (inner : Readers) (below : AreSound
   unfolding prefix
   head_by_reads (Name x) ts o rest is = tested_at (is_type_name names x) _ _ ts _ is
       (λ known none. cc)
-      (λ free last. plain_holds (λ o rest. OperandBehind names n (Name x) ts o rest) last ([], refl, simple_operand n primary_level 1 (one_low n) (ExprForm.name _ _ _ _ x refl refl (no_type_name_is_free names x free) refl refl)))
+      (λ free last. plain_holds (λ o rest. OperandBehind names n (Name x) ts o rest) last ([], refl, simple_operand n primary_level 1 (one_low n) (ExprForm.identifier _ _ _ _ x refl refl (no_type_name_is_free names x free) refl refl)))
   head_by_reads (Number v) ts o rest is = plain_holds (λ o rest. OperandBehind names n (Number v) ts o rest) is ([], refl, simple_operand n primary_level 1 (one_low n) (ExprForm.number _ _ _ _ v refl refl refl refl))
   head_by_reads (Text bytes) ts o rest is = plain_holds (λ o rest. OperandBehind names n (Text bytes) ts o rest) is ([], refl, simple_operand n primary_level 1 (one_low n) (ExprForm.text _ _ _ _ bytes refl refl refl refl))
   head_by_reads (Word word.Sizeof) ts o rest is = sizeof_reads ts o rest is

@@ -5,9 +5,9 @@ use Rattle.c_tokens.specs.declared.token.Keyword.TheVariants as word
 use Rattle.c_tokens.specs.declared.token.Kind.{Kind}
 use Rattle.c_tokens.specs.declared.token.Kind.TheVariants.{Word, Name, Number, Text, Mark}
 use Rattle.c_tokens.specs.declared.token.Mark.TheVariants as mark
-use Rattle.c_tree.specs.declared.expression.Abstract.{Abstract}
+use Rattle.c_tree.specs.declared.expression.AbstractDeclarator.{AbstractDeclarator}
 use Rattle.c_tree.specs.declared.expression.Declarator.{Declarator}
-use Rattle.c_tree.specs.declared.expression.Member.{Member, roll-Member}
+use Rattle.c_tree.specs.declared.expression.MemberDecl.{MemberDecl, roll-MemberDecl}
 use Rattle.c_tree.specs.declared.expression.Param.{Param}
 use Rattle.c_tree.specs.declared.expression.Params.{Params}
 use Rattle.c_tree.specs.declared.expression.Spec.{Spec}
@@ -35,7 +35,7 @@ params_read (ListReads.one h ts ps p is here) = ParamListReads.one_param _ _ _ p
 params_read (ListReads.more h ts ps p others hp ho pts os hi split is here behind) = ParamListReads.more_params _ _ _ p others hp ho pts os hi split is here (params_read behind)
 
 -- one member, with its semicolon
-pub record MemberReads (names : List (List ℕ)) (h : ℕ) (ts : Kinds) (m : Member) : Type 0 where
+pub record MemberReads (names : List (List ℕ)) (h : ℕ) (ts : Kinds) (m : MemberDecl) : Type 0 where
   pub s : Spec
   pub xs : List (List ℕ)
   pub ds : List Declarator
@@ -45,7 +45,7 @@ pub record MemberReads (names : List (List ℕ)) (h : ℕ) (ts : Kinds) (m : Mem
   pub dts : Kinds
   pub height : h ≡ max hs hd
   pub tokens : ts ≡ ss ++ dts ++ Mark mark.Semicolon ∷ []
-  pub is : m ≡ roll-Member (record { spec = s; declarators = ds })
+  pub is : m ≡ roll-MemberDecl (record { spec = s; declarators = ds })
   pub spec : SpecReads names true hs ss s
   pub declarators : DeclaratorsRead names hd xs dts ds
 
@@ -53,13 +53,13 @@ max_three : (h hs hd hm ho : ℕ) → hm ≡ max hs hd → h ≡ max hm ho → h
 max_three h hs hd hm ho one all = omega arith
 
 -- a member in front of others
-member_more : (names : List (List ℕ)) (hm ho : ℕ) (ts os : Kinds) (m : Member) (others : List Member) → MemberReads names hm ts m → MembersRead names ho os others → MembersRead names (max hm ho) (ts ++ os) (m ∷ others)
+member_more : (names : List (List ℕ)) (hm ho : ℕ) (ts os : Kinds) (m : MemberDecl) (others : List MemberDecl) → MemberReads names hm ts m → MembersRead names ho os others → MembersRead names (max hm ho) (ts ++ os) (m ∷ others)
 member_more names hm ho ts os m others r more =
     MembersRead.more_members _ _ _ r.s r.xs r.ds others r.hs r.hd ho r.ss r.dts os (max_three _ r.hs r.hd hm ho r.height refl)
     (ap (λ us. us ++ os) r.tokens ∙ append_assoc (r.ss ++ r.dts) (Mark mark.Semicolon ∷ []) os) (ap (λ z. z ∷ others) r.is) r.spec r.declarators more
 
 -- members, and the brace behind them
-abbrev pub BodyReads : List (List ℕ) → ℕ → Kinds → List Member → Type 0
+abbrev pub BodyReads : List (List ℕ) → ℕ → Kinds → List MemberDecl → Type 0
 BodyReads names h ts members = (ms : Kinds) × (ts ≡ ms ++ Mark mark.RightBrace ∷ []) × (members ≢ []) × MembersRead names h ms members
 
 -- the rest of a spec whose tag this is
@@ -80,7 +80,7 @@ module _ (names : List (List ℕ)) (n : ℕ) (inner : Readers) (below : AreSound
         record { s = s; xs = d.0; ds = ds; hs = hs; hd = hd; ss = ss; dts = dts; height = refl; tokens = refl; is = refl; spec = spec_here; declarators = d.1 },
       ))))
 
-  members_from_found : (k : ℕ) (found : List Member) (h : ℕ) (ts : Kinds) (all : List Member) (H : ℕ) (rest : Kinds) → members_from names inner k found h ts ≡ Some ((all, H), rest) → Found (BodyReads names) n found h ts all H rest
+  members_from_found : (k : ℕ) (found : List MemberDecl) (h : ℕ) (ts : Kinds) (all : List MemberDecl) (H : ℕ) (rest : Kinds) → members_from names inner k found h ts ≡ Some ((all, H), rest) → Found (BodyReads names) n found h ts all H rest
   unfolding members_from
   members_from_found zero found h ts all H rest is = cc
   members_from_found (suc k) found h ts all H rest is = tree_answer (member names inner) member_reads ts _ _ is (λ m hm ks front split low here go.
@@ -156,7 +156,7 @@ module _ (names : List (List ℕ)) (deep : ℕ) (inner : Readers) (body : (bodie
 
 -- ---- parameters
 
-module _ (names : List (List ℕ)) (deep : ℕ) (specs : Bool → Parser (Tall Spec)) (declarators : Parser (Tall Declarator)) (abstracts : Parser (Tall Abstract))
+module _ (names : List (List ℕ)) (deep : ℕ) (specs : Bool → Parser (Tall Spec)) (declarators : Parser (Tall Declarator)) (abstracts : Parser (Tall AbstractDeclarator))
     (spec_is : (bodies : Bool) → ReadsOnly (specs bodies) deep (SpecReads names bodies)) (declarator_is : ReadsOnly declarators deep (NamedReads names)) (abstract_is : ReadsOnly abstracts deep (AbstractReads names)) where
   void_first : (k : Kind) (ks : Kinds) → is_void_alone names specs declarators abstracts (k ∷ ks) ≡ true → k ∷ ks ≡ Word word.Void ∷ ks
   void_first (Word w) ks is = ap (λ v. Word v ∷ ks) (same_word_true w word.Void (both_true (is_word word.Void (Word w)) (sees mark.RightParenthesis ks) is).0)

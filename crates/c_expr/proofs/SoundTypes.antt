@@ -5,7 +5,7 @@ use Rattle.std.proofs.lemmas.List.{append-nil}
 use Rattle.std.proofs.lemmas.Bool.{false≢true, leb-true}
 use Rattle.c_tokens.specs.declared.token.Kind.TheVariants.{Mark}
 use Rattle.c_tokens.specs.declared.token.Mark.TheVariants as mark
-use Rattle.c_tree.specs.declared.expression.Abstract.{Abstract}
+use Rattle.c_tree.specs.declared.expression.AbstractDeclarator.{AbstractDeclarator}
 use Rattle.c_tree.specs.declared.expression.Suffix.{Suffix}
 use Rattle.c_tree.specs.Marks.{Kinds, wrapped, conditional_level}
 use Rattle.c_tree.specs.Grammar.{star_kinds, SuffixesRead, SuffixReads, AbstractReads, AbstractForm}
@@ -78,7 +78,7 @@ suffixes_no_star (SuffixesRead.no_suffix h ts ss low is si) rest none = rw is no
 suffixes_no_star (SuffixesRead.more_suffixes h ts ss s others hs ho sts os low is si one more) rest none = rw is (rw (append_assoc sts os rest) (suffix_no_star one (os ++ rest)))
 
 -- a form whose tokens begin with a star has a star
-form_star : {names : List (List ℕ)} {h stars : ℕ} {ts : Kinds} {a : Abstract} → AbstractForm names h stars ts a → (rest : Kinds) → sees mark.Star rest ≡ false → sees mark.Star (ts ++ rest) ≡ true → 0 < stars
+form_star : {names : List (List ℕ)} {h stars : ℕ} {ts : Kinds} {a : AbstractDeclarator} → AbstractForm names h stars ts a → (rest : Kinds) → sees mark.Star rest ≡ false → sees mark.Star (ts ++ rest) ≡ true → 0 < stars
 unfolding same_mark
 form_star (AbstractForm.simple h zero ts a all ss is ai read) rest none seen = absurd (false≢true (sym (suffixes_no_star read rest none) ∙ (rw is at seen)))
 form_star (AbstractForm.simple h (suc stars) ts a all ss is ai read) rest none seen = omega arith
@@ -86,10 +86,10 @@ form_star (AbstractForm.nested h zero ts a all inside inner_stars hi hs inner ss
 form_star (AbstractForm.nested h (suc stars) ts a all inside inner_stars hi hs inner ss low parts some is ai form read) rest none seen = omega arith
 
 -- so an abstract declarator that begins with one has no parentheses round it
-abbrev StarForm : List (List ℕ) → ℕ → Kinds → Abstract → Type 0
+abbrev StarForm : List (List ℕ) → ℕ → Kinds → AbstractDeclarator → Type 0
 StarForm names h ts a = (stars : ℕ) × (hf : ℕ) × (0 < stars) × (h ≡ 1 + hf) × AbstractForm names hf stars ts a
 
-abstract_star : {names : List (List ℕ)} {h : ℕ} {ts : Kinds} {a : Abstract} → AbstractReads names h ts a → (rest : Kinds) → sees mark.Star rest ≡ false → sees mark.Star (ts ++ rest) ≡ true → StarForm names h ts a
+abstract_star : {names : List (List ℕ)} {h : ℕ} {ts : Kinds} {a : AbstractDeclarator} → AbstractReads names h ts a → (rest : Kinds) → sees mark.Star rest ≡ false → sees mark.Star (ts ++ rest) ≡ true → StarForm names h ts a
 unfolding same_mark
 abstract_star (AbstractReads.open_form h ts a stars hf low form) rest none seen = (stars, hf, form_star form rest none seen, low, form)
 abstract_star (AbstractReads.in_parentheses h ts a stars hf inner low some is form) rest none seen = absurd (false≢true (rw is at seen))
@@ -103,11 +103,11 @@ no_part [] is = refl
 no_part (s ∷ ss) is = cc
 
 -- what is read behind so many stars
-abbrev StarredReads : List (List ℕ) → ℕ → ℕ → Kinds → Abstract → ℕ → Kinds → Type 0
+abbrev StarredReads : List (List ℕ) → ℕ → ℕ → Kinds → AbstractDeclarator → ℕ → Kinds → Type 0
 StarredReads names n stars ts a h rest = (front : Kinds) × (hf : ℕ) × (ts ≡ front ++ rest) × (h ≡ 1 + hf) × (hf ≤ n) × AbstractForm names hf stars (star_kinds stars ++ front) a
 
 module _ (names : List (List ℕ)) (n : ℕ) (inner : Readers) (below : AreSound names n inner) where
-  nested_abstract_reads : (stars : ℕ) (ts : Kinds) (a : Abstract) (h : ℕ) (rest : Kinds) → 0 < stars → opens_abstract names inner ts ≡ true → nested_abstract names inner stars ts ≡ Some ((a, h), rest) → StarredReads names n stars ts a h rest
+  nested_abstract_reads : (stars : ℕ) (ts : Kinds) (a : AbstractDeclarator) (h : ℕ) (rest : Kinds) → 0 < stars → opens_abstract names inner ts ≡ true → nested_abstract names inner stars ts ≡ Some ((a, h), rest) → StarredReads names n stars ts a h rest
   unfolding nested_abstract same_mark
   nested_abstract_reads stars ts a h rest some seen is = mark_answer mark.LeftParenthesis ts _ _ is (λ ks begin go.
       tree_answer inner.abstract below.abstract ks _ _ go (λ inside hi us front split low here go.
@@ -124,7 +124,7 @@ module _ (names : List (List ℕ)) (n : ℕ) (inner : Readers) (below : AreSound
         AbstractForm.nested _ stars _ _ ss inside f.0 f.1 hs front sts (ap (λ m. max m hs) f.3) (inl some) f.2 (sym (append_assoc (star_kinds stars) (wrapped 1 front) sts)) refl f.4 parts,
       )))))
 
-  abstract_behind_reads : (stars : ℕ) (ts : Kinds) (a : Abstract) (h : ℕ) (rest : Kinds) → (0 < stars) ⊎ (opens_abstract names inner ts ≡ false) → abstract_behind names inner stars ts ≡ Some ((a, h), rest) → StarredReads names n stars ts a h rest
+  abstract_behind_reads : (stars : ℕ) (ts : Kinds) (a : AbstractDeclarator) (h : ℕ) (rest : Kinds) → (0 < stars) ⊎ (opens_abstract names inner ts ≡ false) → abstract_behind names inner stars ts ≡ Some ((a, h), rest) → StarredReads names n stars ts a h rest
   unfolding abstract_behind
   abstract_behind_reads stars ts a h rest apart is = tested (opens_abstract names inner ts) _ _ _ is
       (λ opens go. nested_abstract_reads stars ts a h rest (elim apart [ inl some ↦ some | inr none ↦ absurd (false≢true (sym none ∙ opens)) ]) opens go)
@@ -135,7 +135,7 @@ module _ (names : List (List ℕ)) (n : ℕ) (inner : Readers) (below : AreSound
   starred_apart zero ts us is none = inr (subst (λ vs. opens_abstract names inner vs ≡ false) is none)
   starred_apart (suc stars) ts us is none = inl (omega arith)
 
-  starred_reads : (ts : Kinds) (a : Abstract) (h : ℕ) (rest : Kinds) → (0 < (run mark.Star ts).0) ⊎ (opens_abstract names inner ts ≡ false) → starred names inner ts ≡ Some ((a, h), rest)
+  starred_reads : (ts : Kinds) (a : AbstractDeclarator) (h : ℕ) (rest : Kinds) → (0 < (run mark.Star ts).0) ⊎ (opens_abstract names inner ts ≡ false) → starred names inner ts ≡ Some ((a, h), rest)
       → (front : Kinds) × (hf : ℕ) × (ts ≡ front ++ rest) × (h ≡ 1 + hf) × (hf ≤ n) × AbstractForm names hf (run mark.Star ts).0 front a
   unfolding starred
   starred_reads ts a h rest apart is =
@@ -143,7 +143,7 @@ module _ (names : List (List ℕ)) (n : ℕ) (inner : Readers) (below : AreSound
       let b = abstract_behind_reads (run mark.Star ts).0 (run mark.Star ts).1 a h rest (elim apart [ inl some ↦ inl some | inr none ↦ starred_apart _ ts _ split none ]) is in
       (star_kinds (run mark.Star ts).0 ++ b.0, b.1, join (star_kinds (run mark.Star ts).0) b.0 rest split b.2, b.3, b.4, b.5)
 
-  bracketed_abstract_reads : (ts : Kinds) (a : Abstract) (h : ℕ) (rest : Kinds) → opens_abstract names inner ts ≡ true → bracketed_abstract names inner n ts ≡ Some ((a, h), rest) → Reads (AbstractReads names) (suc n) ts a h rest
+  bracketed_abstract_reads : (ts : Kinds) (a : AbstractDeclarator) (h : ℕ) (rest : Kinds) → opens_abstract names inner ts ≡ true → bracketed_abstract names inner n ts ≡ Some ((a, h), rest) → Reads (AbstractReads names) (suc n) ts a h rest
   unfolding bracketed_abstract
   bracketed_abstract_reads ts a h rest seen is = mark_answer mark.LeftParenthesis ts _ _ is (λ ks begin go.
       both_answer (starred names inner ks) _ _ go (λ inside us here go.

@@ -8,7 +8,8 @@ use Rattle.c_tree.specs.declared.expression.Direct.{Direct}
 use Rattle.c_tree.specs.declared.expression.Direct.TheVariants as direct_as
 use Rattle.c_tree.specs.declared.expression.Suffix.{Suffix}
 use Rattle.c_tree.specs.Marks.{Kinds, wrapped, greatest_pairs}
-use Rattle.c_tree.specs.Grammar.{IsFree, HasParts, star_kinds, declarator as declarator_of, DeclaratorReads, DeclaratorForm, DirectReads, SuffixesRead}
+use Rattle.c_tree.specs.Trees.{declarator as declarator_of}
+use Rattle.c_tree.specs.Grammar.{IsFree, HasParts, star_kinds, DeclaratorReads, DeclaratorForm, DirectReads, SuffixesRead}
 use Rattle.c_expr.specs.declared.brackets.Core.TheVariants as core_as
 use Rattle.c_expr.specs.declared.brackets.Bracketed.{Bracketed}
 use Rattle.c_expr.specs.Parser.{Outcome, same_mark, expect}

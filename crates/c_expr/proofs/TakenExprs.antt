@@ -200,7 +200,7 @@ module _ (names : List (List ℕ)) (n : ℕ) (r : Readers) (full : AreComplete n
     form_ends (ExprForm.post_decrement level h ts e a ha ats l hi is ei left) deep =
         spine_closed (reads_led left (omega arith) (omega arith)) (omega arith) goes.Decrement (Mark mark.Decrement) [] (part_as.Decrement, 0) level h ts e (λ rest. refl) (omega arith) l refl ei (omega arith) is
         (λ rest. decrement_taken names n r full rest)
-    form_ends (ExprForm.name level h ts e x l hi free is ei) deep = FormEnds.closed (λ least k rest loose. leads_same least k rest (rw is) (rw (l, ei, hi)) (name_leads names r n least k x rest free))
+    form_ends (ExprForm.identifier level h ts e x l hi free is ei) deep = FormEnds.closed (λ least k rest loose. leads_same least k rest (rw is) (rw (l, ei, hi)) (name_leads names r n least k x rest free))
     form_ends (ExprForm.number level h ts e m l hi is ei) deep = FormEnds.closed (λ least k rest loose. leads_same least k rest (rw is) (rw (l, ei, hi)) (number_leads names r n least k m rest))
     form_ends (ExprForm.text level h ts e bytes l hi is ei) deep = FormEnds.closed (λ least k rest loose. leads_same least k rest (rw is) (rw (l, ei, hi)) (text_leads names r n least k bytes rest))
 

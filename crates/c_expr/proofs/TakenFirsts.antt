@@ -4,7 +4,7 @@ use Rattle.c_tokens.specs.declared.token.Kind.{Kind}
 use Rattle.c_tokens.specs.declared.token.Kind.TheVariants.{Word, Name, Number, Text, Mark}
 use Rattle.c_tokens.specs.declared.token.Mark.{Mark as MarkName}
 use Rattle.c_tokens.specs.declared.token.Mark.TheVariants as mark
-use Rattle.c_tree.specs.declared.expression.Abstract.{Abstract}
+use Rattle.c_tree.specs.declared.expression.AbstractDeclarator.{AbstractDeclarator}
 use Rattle.c_tree.specs.declared.expression.Declarator.{Declarator}
 use Rattle.c_tree.specs.declared.expression.Direct.{Direct}
 use Rattle.c_tree.specs.declared.expression.Suffix.{Suffix}
@@ -136,13 +136,13 @@ stars_lack : (m : MarkName) (stars : ℕ) (ts : Kinds) → same_mark mark.Star m
 stars_lack m zero ts star l = l
 stars_lack m (suc stars) ts star l = star
 
-pub AbstractForm-lacks : {names : List (List ℕ)} {h stars : ℕ} {ts : Kinds} {a : Abstract} (m : MarkName) → OpensNothing m → AbstractForm names h stars ts a → (rest : Kinds) → Lacks m rest → Lacks m (ts ++ rest)
+pub AbstractForm-lacks : {names : List (List ℕ)} {h stars : ℕ} {ts : Kinds} {a : AbstractDeclarator} (m : MarkName) → OpensNothing m → AbstractForm names h stars ts a → (rest : Kinds) → Lacks m rest → Lacks m (ts ++ rest)
 AbstractForm-lacks m o (AbstractForm.simple h stars ts a suffixes ss is ai read) rest l =
     lacks_same m rest is (rw (append_assoc (star_kinds stars) ss rest) (stars_lack m stars (ss ++ rest) o.star (suffixes_lack m o.parenthesis o.bracket read rest l)))
 AbstractForm-lacks m o (AbstractForm.nested h stars ts a suffixes inside inner_stars hi hs inner ss hh has some is ai formed read) rest l =
     lacks_same m rest is (rw (append_assoc (star_kinds stars ++ wrapped 1 inner) ss rest, append_assoc (star_kinds stars) (wrapped 1 inner) (ss ++ rest)) (stars_lack m stars (wrapped 1 inner ++ (ss ++ rest)) o.star o.parenthesis))
 
-pub AbstractReads-lacks : {names : List (List ℕ)} {h : ℕ} {ts : Kinds} {a : Abstract} (m : MarkName) → OpensNothing m → AbstractReads names h ts a → (rest : Kinds) → Lacks m rest → Lacks m (ts ++ rest)
+pub AbstractReads-lacks : {names : List (List ℕ)} {h : ℕ} {ts : Kinds} {a : AbstractDeclarator} (m : MarkName) → OpensNothing m → AbstractReads names h ts a → (rest : Kinds) → Lacks m rest → Lacks m (ts ++ rest)
 AbstractReads-lacks m o (AbstractReads.open_form h ts a stars hf hi formed) rest l = AbstractForm-lacks m o formed rest l
 AbstractReads-lacks m o (AbstractReads.in_parentheses h ts a stars hf inner hi some is formed) rest l = lacks_same m rest is o.parenthesis
 

@@ -3,8 +3,8 @@ use Rattle.std.proofs.Common.{◌≡◌, ℕ, ℤ, zero, suc, ◌+◌, ◌≤◌
 use Rattle.c_tokens.specs.declared.token.Keyword.TheVariants as word
 use Rattle.c_tokens.specs.declared.token.Kind.TheVariants.{Word, Name, Number, Text, Mark}
 use Rattle.c_tokens.specs.declared.token.Mark.TheVariants as mark
-use Rattle.c_tree.specs.declared.expression.UnaryOperator.{UnaryOperator}
-use Rattle.c_tree.specs.declared.expression.UnaryOperator.TheVariants as unary
+use Rattle.c_tree.specs.declared.operator.UnaryOperator.{UnaryOperator}
+use Rattle.c_tree.specs.declared.operator.UnaryOperator.TheVariants as unary
 use Rattle.c_tree.specs.declared.expression.Expr.{Expr}
 use Rattle.c_tree.specs.declared.expression.Expr.TheVariants as e
 use Rattle.c_tree.specs.declared.expression.TypeWord.{TypeWord}
@@ -72,7 +72,7 @@ mutual
   form_opens_no_type {names} (ExprForm.arrow level h ts e a x ha ats l hi free is ei left) tight rest = at_front names ts ats (Mark mark.Arrow ∷ Name x ∷ []) rest is (opens_no_type left (omega arith) _)
   form_opens_no_type {names} (ExprForm.post_increment level h ts e a ha ats l hi is ei left) tight rest = at_front names ts ats (Mark mark.Increment ∷ []) rest is (opens_no_type left (omega arith) _)
   form_opens_no_type {names} (ExprForm.post_decrement level h ts e a ha ats l hi is ei left) tight rest = at_front names ts ats (Mark mark.Decrement ∷ []) rest is (opens_no_type left (omega arith) _)
-  form_opens_no_type {names} (ExprForm.name level h ts e x l hi free is ei) tight rest = at_tokens names ts (Name x ∷ []) rest is refl
+  form_opens_no_type {names} (ExprForm.identifier level h ts e x l hi free is ei) tight rest = at_tokens names ts (Name x ∷ []) rest is refl
   form_opens_no_type {names} (ExprForm.number level h ts e n l hi is ei) tight rest = at_tokens names ts (Number n ∷ []) rest is refl
   form_opens_no_type {names} (ExprForm.text level h ts e bytes l hi is ei) tight rest = at_tokens names ts (Text bytes ∷ []) rest is refl
 
@@ -83,7 +83,7 @@ module _ (names : List (List ℕ)) (r : Readers) (n least k : ℕ) where
   abbrev pub Leads : Kinds → Operand → Kinds → Type 0
   Leads ts o rest = level_in names r n least k ts ≡ close names r n least k o rest
 
-  pub name_leads : (x : List ℕ) (rest : Kinds) → IsFree names x → Leads (Name x ∷ rest) (leaf (e.Name x)) rest
+  pub name_leads : (x : List ℕ) (rest : Kinds) → IsFree names x → Leads (Name x ∷ rest) (leaf (e.Identifier x)) rest
   unfolding head
   name_leads x rest free = level_in_head names r n least k (Name x) rest _ rest refl (rw (free_is_no_type_name names x free))
 

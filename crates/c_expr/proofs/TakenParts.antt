@@ -6,10 +6,10 @@ use Rattle.c_tokens.specs.declared.token.Kind.{Kind}
 use Rattle.c_tokens.specs.declared.token.Kind.TheVariants.{Word, Name, Number, Text, Mark}
 use Rattle.c_tokens.specs.declared.token.Mark.{Mark as MarkName}
 use Rattle.c_tokens.specs.declared.token.Mark.TheVariants as mark
-use Rattle.c_tree.specs.declared.expression.AssignOperator.{AssignOperator}
-use Rattle.c_tree.specs.declared.expression.AssignOperator.TheVariants as assign
-use Rattle.c_tree.specs.declared.expression.BinaryOperator.{BinaryOperator}
-use Rattle.c_tree.specs.declared.expression.BinaryOperator.TheVariants as binary
+use Rattle.c_tree.specs.declared.operator.AssignOperator.{AssignOperator}
+use Rattle.c_tree.specs.declared.operator.AssignOperator.TheVariants as assign
+use Rattle.c_tree.specs.declared.operator.BinaryOperator.{BinaryOperator}
+use Rattle.c_tree.specs.declared.operator.BinaryOperator.TheVariants as binary
 use Rattle.c_tree.specs.declared.expression.Expr.{Expr}
 use Rattle.c_tree.specs.Marks.{Kinds, assign_mark, binary_mark, assign_level, conditional_level, binary_level}
 use Rattle.c_tree.specs.Grammar.{IsFree, ExprReads, ArgumentsRead, ArgumentListReads}
@@ -32,18 +32,18 @@ assign_goes assign.Subtract ks = refl
 assign_goes assign.Multiply ks = refl
 assign_goes assign.Divide ks = refl
 assign_goes assign.Remainder ks = refl
-assign_goes assign.And ks = refl
-assign_goes assign.Or ks = refl
-assign_goes assign.ExclusiveOr ks = refl
+assign_goes assign.BitwiseAnd ks = refl
+assign_goes assign.BitwiseOr ks = refl
+assign_goes assign.BitwiseExclusiveOr ks = refl
 assign_goes assign.ShiftLeft ks = refl
 assign_goes assign.ShiftRight ks = refl
 
 pub binary_goes : (op : BinaryOperator) (ks : Kinds) → continuation (Mark (binary_mark op) ∷ ks) ≡ Some (goes.Binary op)
 binary_goes binary.LogicalOr ks = refl
 binary_goes binary.LogicalAnd ks = refl
-binary_goes binary.Or ks = refl
-binary_goes binary.ExclusiveOr ks = refl
-binary_goes binary.And ks = refl
+binary_goes binary.BitwiseOr ks = refl
+binary_goes binary.BitwiseExclusiveOr ks = refl
+binary_goes binary.BitwiseAnd ks = refl
 binary_goes binary.Equal ks = refl
 binary_goes binary.NotEqual ks = refl
 binary_goes binary.Less ks = refl

@@ -4,9 +4,9 @@ use Rattle.c_tokens.specs.declared.token.Keyword.TheVariants as word
 use Rattle.c_tokens.specs.declared.token.Kind.{Kind}
 use Rattle.c_tokens.specs.declared.token.Kind.TheVariants.{Word, Mark}
 use Rattle.c_tokens.specs.declared.token.Mark.TheVariants as mark
-use Rattle.c_tree.specs.declared.expression.Abstract.{Abstract}
+use Rattle.c_tree.specs.declared.expression.AbstractDeclarator.{AbstractDeclarator}
 use Rattle.c_tree.specs.declared.expression.Declarator.{Declarator}
-use Rattle.c_tree.specs.declared.expression.Member.{Member, roll-Member}
+use Rattle.c_tree.specs.declared.expression.MemberDecl.{MemberDecl, roll-MemberDecl}
 use Rattle.c_tree.specs.declared.expression.Param.{Param}
 use Rattle.c_tree.specs.declared.expression.Params.{Params}
 use Rattle.c_tree.specs.declared.expression.Spec.{Spec}
@@ -49,7 +49,7 @@ declarator_items {names} inner = record {
 
 member_takes : {names : List (List ℕ)} {n : ℕ} {r : Readers} → AreComplete names n r → {hs hd : ℕ} {ss dts : Kinds} {s : Spec} {xs : List (List ℕ)} {ds : List Declarator}
     → SpecReads names true hs ss s → DeclaratorsRead names hd xs dts ds → hs ≤ n → hd ≤ n
-    → (rest : Kinds) → member names r (ss ++ (dts ++ Mark mark.Semicolon ∷ rest)) ≡ Some ((roll-Member (record { spec = s; declarators = ds }), max hs hd), rest)
+    → (rest : Kinds) → member names r (ss ++ (dts ++ Mark mark.Semicolon ∷ rest)) ≡ Some ((roll-MemberDecl (record { spec = s; declarators = ds }), max hs hd), rest)
 unfolding member expect same_mark
 member_takes {names} inner {hs} {hd} {ss} {dts} {s} first second low_spec low rest =
     let begins = DeclaratorsRead-begins second in
@@ -62,27 +62,27 @@ begins_some P [] b = absurd b
 begins_some P (k ∷ ks) b = omega arith
 
 -- the last member, or one before others
-members_last : (names : List (List ℕ)) (r : Readers) (fuel : ℕ) (found : List Member) (height h : ℕ) (ts rest : Kinds) (m : Member) → 0 < fuel → member names r ts ≡ Some ((m, h), Mark mark.RightBrace ∷ rest)
+members_last : (names : List (List ℕ)) (r : Readers) (fuel : ℕ) (found : List MemberDecl) (height h : ℕ) (ts rest : Kinds) (m : MemberDecl) → 0 < fuel → member names r ts ≡ Some ((m, h), Mark mark.RightBrace ∷ rest)
     → members_from names r fuel found height ts ≡ Some ((found ++ m ∷ [], max height h), rest)
 unfolding members_from after same_mark
 members_last names r zero found height h ts rest m some is = absurd (omega arith)
 members_last names r (suc k) found height h ts rest m some is = rw is
 
-members_before : (names : List (List ℕ)) (r : Readers) (k : ℕ) (found : List Member) (height h : ℕ) (ts rest : Kinds) (m : Member) → Lacks mark.RightBrace rest → member names r ts ≡ Some ((m, h), rest)
+members_before : (names : List (List ℕ)) (r : Readers) (k : ℕ) (found : List MemberDecl) (height h : ℕ) (ts rest : Kinds) (m : MemberDecl) → Lacks mark.RightBrace rest → member names r ts ≡ Some ((m, h), rest)
     → members_from names r (suc k) found height ts ≡ members_from names r k (found ++ m ∷ []) (max height h) rest
 unfolding members_from after
 members_before names r k found height h ts rest m lacks is = rw is (rw lacks)
 
-MembersRead-begins : {names : List (List ℕ)} {h : ℕ} {ts : Kinds} {ms : List Member} → MembersRead names h ts ms → ((h ≡ 0) × (ts ≡ []) × (ms ≡ [])) ⊎ (Begins (CanBeginSpec names) ts × (ms ≢ []))
+MembersRead-begins : {names : List (List ℕ)} {h : ℕ} {ts : Kinds} {ms : List MemberDecl} → MembersRead names h ts ms → ((h ≡ 0) × (ts ≡ []) × (ms ≡ [])) ⊎ (Begins (CanBeginSpec names) ts × (ms ≢ []))
 MembersRead-begins (MembersRead.no_member h ts ms hi is mi) = inl (hi, is, mi)
 MembersRead-begins (MembersRead.more_members h ts ms s xs ds others hs hd ho ss dts os hi is mi first second more) = inr (Begins-same _ is (Begins-append _ (ss ++ dts) _ (Begins-append _ ss _ (SpecReads-begins first))), λ none. cc)
 
 -- what was found before, and the greatest height of all
-members_found : (found others : List Member) (m : Member) (a b c d : ℕ) (rest : Kinds)
-    → ◌≡◌ {A = Outcome (Tall (List Member))} (Some (((found ++ m ∷ []) ++ others, max (max a (max b c)) d), rest)) (Some ((found ++ (m ∷ others), max a (max b (max c d))), rest))
+members_found : (found others : List MemberDecl) (m : MemberDecl) (a b c d : ℕ) (rest : Kinds)
+    → ◌≡◌ {A = Outcome (Tall (List MemberDecl))} (Some (((found ++ m ∷ []) ++ others, max (max a (max b c)) d), rest)) (Some ((found ++ (m ∷ others), max a (max b (max c d))), rest))
 members_found found others m a b c d rest = let high : max (max a (max b c)) d ≡ max a (max b (max c d)) = omega arith in rw (append_assoc found (m ∷ []) others, high)
 
-members_end : (names : List (List ℕ)) (r : Readers) (fuel : ℕ) (found others : List Member) (height hs hd ho : ℕ) (ts os rest : Kinds) (m : Member) → 0 < fuel → ho ≡ 0 → os ≡ [] → others ≡ []
+members_end : (names : List (List ℕ)) (r : Readers) (fuel : ℕ) (found others : List MemberDecl) (height hs hd ho : ℕ) (ts os rest : Kinds) (m : MemberDecl) → 0 < fuel → ho ≡ 0 → os ≡ [] → others ≡ []
     → member names r ts ≡ Some ((m, max hs hd), os ++ Mark mark.RightBrace ∷ rest)
     → members_from names r fuel found height ts ≡ Some ((found ++ m ∷ others, max height (max hs (max hd ho))), rest)
 members_end names r fuel found others height hs hd ho ts os rest m some low none alone is =
@@ -96,13 +96,13 @@ member_place ss dts os rest = append_assoc (ss ++ dts) (Mark mark.Semicolon ∷ 
 member_length : (ss dts os : Kinds) → length (ss ++ dts ++ Mark mark.Semicolon ∷ os) ≡ length ss + (length dts + suc (length os))
 member_length ss dts os = length-append (ss ++ dts) (Mark mark.Semicolon ∷ os) ∙ (let two = length-append ss dts in omega arith)
 
-members_from_take : {names : List (List ℕ)} {n : ℕ} {r : Readers} → AreComplete names n r → {h : ℕ} {ts : Kinds} {ms : List Member} → MembersRead names h ts ms → ms ≢ [] → h ≤ n → (rest : Kinds)
-    → (fuel : ℕ) → length ts ≤ fuel → (found : List Member) (height : ℕ) → members_from names r fuel found height (ts ++ Mark mark.RightBrace ∷ rest) ≡ Some ((found ++ ms, max height h), rest)
+members_from_take : {names : List (List ℕ)} {n : ℕ} {r : Readers} → AreComplete names n r → {h : ℕ} {ts : Kinds} {ms : List MemberDecl} → MembersRead names h ts ms → ms ≢ [] → h ≤ n → (rest : Kinds)
+    → (fuel : ℕ) → length ts ≤ fuel → (found : List MemberDecl) (height : ℕ) → members_from names r fuel found height (ts ++ Mark mark.RightBrace ∷ rest) ≡ Some ((found ++ ms, max height h), rest)
 members_from_take inner (MembersRead.no_member h ts ms hi is mi) some deep rest fuel enough found height = absurd (some mi)
 members_from_take inner (MembersRead.more_members h ts ms s xs ds others hs hd ho ss dts os hi is mi first second more) some deep rest zero enough found height =
     let long = ap (λ ks. length ks) is ∙ member_length ss dts os in absurd (omega arith)
 members_from_take {names} {r = r} inner (MembersRead.more_members h ts ms s xs ds others hs hd ho ss dts os hi is mi first second more) some deep rest (suc k) enough found height =
-    let m = roll-Member (record { spec = s; declarators = ds }) in
+    let m = roll-MemberDecl (record { spec = s; declarators = ds }) in
     let after = os ++ Mark mark.RightBrace ∷ rest in
     let all = ss ++ (dts ++ Mark mark.Semicolon ∷ after) in
     let begins = begins_some (CanBeginSpec names) ss (SpecReads-begins first) in
@@ -116,7 +116,7 @@ members_from_take {names} {r = r} inner (MembersRead.more_members h ts ms s xs d
 
 -- whichever readers read the members, if they read those of every body that is at most so deep
 abbrev pub MembersTaken : List (List ℕ) → ℕ → Readers → Type 0
-MembersTaken names depth r = (h : ℕ) (ts : Kinds) (ms : List Member) → 1 + h ≤ depth → ms ≢ [] → MembersRead names h ts ms → (rest : Kinds) → members names r (ts ++ Mark mark.RightBrace ∷ rest) ≡ Some ((ms, h), rest)
+MembersTaken names depth r = (h : ℕ) (ts : Kinds) (ms : List MemberDecl) → 1 + h ≤ depth → ms ≢ [] → MembersRead names h ts ms → (rest : Kinds) → members names r (ts ++ Mark mark.RightBrace ∷ rest) ≡ Some ((ms, h), rest)
 
 members_take : {names : List (List ℕ)} {n : ℕ} {r : Readers} → AreComplete names n r → MembersTaken names (suc n) r
 unfolding members
@@ -153,16 +153,16 @@ spec_takes_word names r bodies h ts s deep read = spec_by_members names 0 r (λ 
 -- ---- parameters
 
 -- the parsers of specs, declarators and abstract declarators take those of this depth
-pub record TakeParts (names : List (List ℕ)) (depth : ℕ) (s : Bool → Parser (Tall Spec)) (d : Parser (Tall Declarator)) (a : Parser (Tall Abstract)) : Type 0 where
+pub record TakeParts (names : List (List ℕ)) (depth : ℕ) (s : Bool → Parser (Tall Spec)) (d : Parser (Tall Declarator)) (a : Parser (Tall AbstractDeclarator)) : Type 0 where
   pub spec : (bodies : Bool) (h : ℕ) (ts : Kinds) (x : Spec) → h ≤ depth → SpecReads names bodies h ts x → Takes (s bodies) (Lacks mark.LeftBrace) h ts x
   pub declarator : (h : ℕ) (y : List ℕ) (ts : Kinds) (x : Declarator) → h ≤ depth → DeclaratorReads names h y ts x → Takes d LacksSuffix h ts x
-  pub abstract : (h : ℕ) (ts : Kinds) (x : Abstract) → h ≤ depth → AbstractReads names h ts x → Takes a Closes h ts x
+  pub abstract : (h : ℕ) (ts : Kinds) (x : AbstractDeclarator) → h ≤ depth → AbstractReads names h ts x → Takes a Closes h ts x
 
 closes_not_free : (names : List (List ℕ)) (rest : Kinds) → Closes rest → Begins (NotFree names) (core rest)
 closes_not_free names rest (ks, inl is) = rw is (λ x e. cc)
 closes_not_free names rest (ks, inr is) = rw is (λ x e. cc)
 
-param_takes : {names : List (List ℕ)} {depth : ℕ} {s : Bool → Parser (Tall Spec)} {d : Parser (Tall Declarator)} {a : Parser (Tall Abstract)} → TakeParts names depth s d a
+param_takes : {names : List (List ℕ)} {depth : ℕ} {s : Bool → Parser (Tall Spec)} {d : Parser (Tall Declarator)} {a : Parser (Tall AbstractDeclarator)} → TakeParts names depth s d a
     → (h : ℕ) (ts : Kinds) (p : Param) → h ≤ depth → ParamReads names h ts p → Takes (param names s d a) Closes h ts p
 unfolding param
 param_takes {names} parts h ts p deep (ParamReads.named _ _ _ s d x hs hd ss ds hi is pi first second) rest ends =
@@ -179,7 +179,7 @@ pub params_separated : {names : List (List ℕ)} {h : ℕ} {ts : Kinds} {ps : Li
 params_separated (ParamListReads.one_param h ts ps p pi read) = SeparatedRead.one_item h ts ps p pi read
 params_separated (ParamListReads.more_params h ts ps p others hp ho pts os hi is pi read more) = SeparatedRead.more_items h ts ps p others hp ho pts os hi is pi read (params_separated more)
 
-param_items : {names : List (List ℕ)} {depth : ℕ} {s : Bool → Parser (Tall Spec)} {d : Parser (Tall Declarator)} {a : Parser (Tall Abstract)} → TakeParts names depth s d a
+param_items : {names : List (List ℕ)} {depth : ℕ} {s : Bool → Parser (Tall Spec)} {d : Parser (Tall Declarator)} {a : Parser (Tall AbstractDeclarator)} → TakeParts names depth s d a
     → TakesItems (λ k ks p. ParamReads names k ks p) (param names s d a) Closes depth
 param_items {names} parts = record {
   takes = param_takes parts;
@@ -188,7 +188,7 @@ param_items {names} parts = record {
 }
 
 -- `void` and a closing parenthesis begin no list of parameters but that of `void` alone
-module _ (names : List (List ℕ)) (s : Bool → Parser (Tall Spec)) (d : Parser (Tall Declarator)) (a : Parser (Tall Abstract)) where
+module _ (names : List (List ℕ)) (s : Bool → Parser (Tall Spec)) (d : Parser (Tall Declarator)) (a : Parser (Tall AbstractDeclarator)) where
   abbrev IsVoid : Kinds → Type 0
   IsVoid ts = is_void_alone names s d a ts ≡ true
 
@@ -233,7 +233,7 @@ parenthesis_no_comma : (ks : Kinds) → Lacks mark.Comma (Mark mark.RightParenth
 unfolding same_mark
 parenthesis_no_comma ks = refl
 
-pub params_take : (names : List (List ℕ)) (depth : ℕ) (s : Bool → Parser (Tall Spec)) (d : Parser (Tall Declarator)) (a : Parser (Tall Abstract)) → TakeParts names depth s d a
+pub params_take : (names : List (List ℕ)) (depth : ℕ) (s : Bool → Parser (Tall Spec)) (d : Parser (Tall Declarator)) (a : Parser (Tall AbstractDeclarator)) → TakeParts names depth s d a
     → (h : ℕ) (ts : Kinds) (p : Params) → h ≤ depth → ParamsRead names h ts p → Takes (params names s d a) ClosesParenthesis h ts p
 unfolding params same_mark same_word
 params_take names depth s d a parts h ts p deep (ParamsRead.nothing _ _ _ hi is pi) rest (ks, ends) = rw (is, hi, pi, ends)

@@ -1,6 +1,6 @@
 -- The readers of each depth answer what is of the grammar, given that those of the depth below do.
 use Rattle.std.proofs.Common.{ℕ, zero, suc, ◌≤◌, List, arith}
-use Rattle.c_tree.specs.declared.expression.Abstract.{Abstract}
+use Rattle.c_tree.specs.declared.expression.AbstractDeclarator.{AbstractDeclarator}
 use Rattle.c_tree.specs.declared.expression.Declarator.{Declarator}
 use Rattle.c_tree.specs.declared.expression.Expr.{Expr}
 use Rattle.c_tree.specs.declared.expression.TypeWord.{TypeWord}
@@ -31,7 +31,7 @@ form_has_node (ExprForm.member level h ts e a x ha ats l hi free is ei left) = o
 form_has_node (ExprForm.arrow level h ts e a x ha ats l hi free is ei left) = omega arith
 form_has_node (ExprForm.post_increment level h ts e a ha ats l hi is ei left) = omega arith
 form_has_node (ExprForm.post_decrement level h ts e a ha ats l hi is ei left) = omega arith
-form_has_node (ExprForm.name level h ts e x l hi free is ei) = omega arith
+form_has_node (ExprForm.identifier level h ts e x l hi free is ei) = omega arith
 form_has_node (ExprForm.number level h ts e n l hi is ei) = omega arith
 form_has_node (ExprForm.text level h ts e bytes l hi is ei) = omega arith
 
@@ -45,7 +45,7 @@ pub declarator_has_node : {names : List (List ℕ)} {h : ℕ} {x : List ℕ} {ts
 declarator_has_node (DeclaratorReads.plain h x ts d pairs hi few free is di) = omega arith
 declarator_has_node (DeclaratorReads.formed h x ts d pairs hf inner hi few is formed) = omega arith
 
-pub abstract_has_node : {names : List (List ℕ)} {h : ℕ} {ts : Kinds} {a : Abstract} → AbstractReads names h ts a → 1 ≤ h
+pub abstract_has_node : {names : List (List ℕ)} {h : ℕ} {ts : Kinds} {a : AbstractDeclarator} → AbstractReads names h ts a → 1 ≤ h
 abstract_has_node (AbstractReads.open_form h ts a stars hf hi formed) = omega arith
 abstract_has_node (AbstractReads.in_parentheses h ts a stars hf inner hi some is formed) = omega arith
 

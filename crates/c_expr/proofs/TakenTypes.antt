@@ -3,12 +3,13 @@ use Rattle.std.proofs.Common.{◌≡◌, ℕ, zero, suc, ◌+◌, ◌<◌, ◌�
 use Rattle.c_tokens.specs.declared.token.Kind.TheVariants.{Mark}
 use Rattle.c_tokens.specs.declared.token.Mark.{Mark as MarkName}
 use Rattle.c_tokens.specs.declared.token.Mark.TheVariants as mark
-use Rattle.c_tree.specs.declared.expression.Abstract.{Abstract}
+use Rattle.c_tree.specs.declared.expression.AbstractDeclarator.{AbstractDeclarator}
 use Rattle.c_tree.specs.declared.expression.Params.{Params}
 use Rattle.c_tree.specs.declared.expression.Suffix.{Suffix}
 use Rattle.c_tree.specs.declared.expression.TypeWord.{TypeWord}
 use Rattle.c_tree.specs.Marks.{Kinds, wrapped}
-use Rattle.c_tree.specs.Grammar.{HasParts, star_kinds, abstract as abstract_of, SuffixesRead, SuffixReads, ParamsRead, AbstractReads, AbstractForm, TypeWordReads}
+use Rattle.c_tree.specs.Trees.{abstract as abstract_of}
+use Rattle.c_tree.specs.Grammar.{HasParts, star_kinds, SuffixesRead, SuffixReads, ParamsRead, AbstractReads, AbstractForm, TypeWordReads}
 use Rattle.c_expr.specs.Parser.{same_mark, sees, behind, expect}
 use Rattle.c_expr.specs.Readers.{Readers, suffixes, nested_abstract, abstract_behind, starred, with_suffixes, bracketed_abstract, abstract, type_word, is_none}
 use Rattle.c_expr.specs.Laws.{Takes, Lacks, Closes, ClosesParenthesis, AreComplete}
@@ -63,20 +64,20 @@ unfolding same_mark
 stars_open_none zero ts h = h
 stars_open_none (suc stars) ts h = refl
 
-form_begins_star : {names : List (List ℕ)} {h stars : ℕ} {ts : Kinds} {a : Abstract} → AbstractForm names h stars ts a → 0 < stars → (rest : Kinds) → sees mark.Star (ts ++ rest) ≡ true
+form_begins_star : {names : List (List ℕ)} {h stars : ℕ} {ts : Kinds} {a : AbstractDeclarator} → AbstractForm names h stars ts a → 0 < stars → (rest : Kinds) → sees mark.Star (ts ++ rest) ≡ true
 unfolding same_mark
 form_begins_star (AbstractForm.simple h zero ts a suffixes ss is ai read) some rest = absurd (omega arith)
 form_begins_star (AbstractForm.simple h (suc stars) ts a suffixes ss is ai read) some rest = rw is
 form_begins_star (AbstractForm.nested h zero ts a suffixes inside inner_stars hi hs inner ss hh has more is ai formed read) some rest = absurd (omega arith)
 form_begins_star (AbstractForm.nested h (suc stars) ts a suffixes inside inner_stars hi hs inner ss hh has more is ai formed read) some rest = rw is
 
-pub form_opens_star : {names : List (List ℕ)} {h stars : ℕ} {ts : Kinds} {a : Abstract} → AbstractForm names h stars ts a → 0 < stars → (rest : Kinds) → OpensStar (wrapped 1 ts ++ rest) ≡ true
+pub form_opens_star : {names : List (List ℕ)} {h stars : ℕ} {ts : Kinds} {a : AbstractDeclarator} → AbstractForm names h stars ts a → 0 < stars → (rest : Kinds) → OpensStar (wrapped 1 ts ++ rest) ≡ true
 unfolding same_mark
 form_opens_star {ts = ts} formed some rest = rw (append_assoc ts (Mark mark.RightParenthesis ∷ []) rest) (form_begins_star formed some (Mark mark.RightParenthesis ∷ rest))
 
 -- ---- abstract declarators
 
-nested_takes : {names : List (List ℕ)} {n : ℕ} {r : Readers} → AreComplete names n r → {hi hs inner_stars : ℕ} {its ss : Kinds} {inside : Abstract} {sfs : List Suffix} (stars : ℕ)
+nested_takes : {names : List (List ℕ)} {n : ℕ} {r : Readers} → AreComplete names n r → {hi hs inner_stars : ℕ} {its ss : Kinds} {inside : AbstractDeclarator} {sfs : List Suffix} (stars : ℕ)
     → AbstractForm names hi inner_stars its inside → SuffixesRead names hs ss sfs
     → 1 + hi ≤ n → hs ≤ n → (rest : Kinds) → Closes rest → nested_abstract names r stars (wrapped 1 its ++ (ss ++ rest)) ≡ Some ((abstract_of stars (Some inside) sfs, 1 + max (1 + hi) hs), rest)
 unfolding nested_abstract expect same_mark
@@ -84,7 +85,7 @@ nested_takes inner {hi} {hs} {inner_stars} {its} {ss} {inside} stars formed read
     let taken = inner.abstract (1 + hi) its inside deep_in (AbstractReads.open_form (1 + hi) its inside inner_stars hi refl formed) (Mark mark.RightParenthesis ∷ (ss ++ rest)) (ss ++ rest, inl refl) in
     rw (append_assoc its (Mark mark.RightParenthesis ∷ []) (ss ++ rest)) (rw taken (rw (suffixes_take inner read deep rest (closes_lacks_suffix rest ends))))
 
-starred_takes : {names : List (List ℕ)} {n : ℕ} {r : Readers} → AreComplete names n r → {h stars : ℕ} {ts : Kinds} {a : Abstract} → AbstractForm names h stars ts a → h ≤ n → (rest : Kinds) → Closes rest
+starred_takes : {names : List (List ℕ)} {n : ℕ} {r : Readers} → AreComplete names n r → {h stars : ℕ} {ts : Kinds} {a : AbstractDeclarator} → AbstractForm names h stars ts a → h ≤ n → (rest : Kinds) → Closes rest
     → starred names r (ts ++ rest) ≡ Some ((a, 1 + h), rest)
 unfolding starred abstract_behind same_mark
 starred_takes inner (AbstractForm.simple h stars ts a sfs ss is ai read) deep rest ends =
@@ -94,7 +95,7 @@ starred_takes inner (AbstractForm.nested h stars ts a sfs inside inner_stars hi 
     (rw (form_opens_star formed more (ss ++ rest)) (nested_takes inner stars formed read (omega arith) (omega arith) rest ends))
 
 -- one in parentheses and the suffixes behind it
-bracketed_takes : {names : List (List ℕ)} {n : ℕ} {r : Readers} → AreComplete names n r → {hi hs stars : ℕ} {its ss : Kinds} {inside : Abstract} {sfs : List Suffix}
+bracketed_takes : {names : List (List ℕ)} {n : ℕ} {r : Readers} → AreComplete names n r → {hi hs stars : ℕ} {its ss : Kinds} {inside : AbstractDeclarator} {sfs : List Suffix}
     → AbstractForm names hi stars its inside → SuffixesRead names hs ss sfs
     → hi ≤ n → hs ≤ n → (rest : Kinds) → Closes rest → bracketed_abstract names r n (wrapped 1 its ++ (ss ++ rest)) ≡ with_suffixes names r n (inside, 1 + hi) (sfs, hs) rest
 unfolding bracketed_abstract expect same_mark
@@ -115,7 +116,7 @@ bracketed_by : (names : List (List ℕ)) (r : Readers) (n : ℕ) (ts : Kinds) �
 unfolding abstract
 bracketed_by names r n ts opens = rw opens
 
-form_takes : {names : List (List ℕ)} {n : ℕ} {r : Readers} → AreComplete names n r → {h stars : ℕ} {ts : Kinds} {a : Abstract} → AbstractForm names h stars ts a → h ≤ n → (rest : Kinds) → Closes rest
+form_takes : {names : List (List ℕ)} {n : ℕ} {r : Readers} → AreComplete names n r → {h stars : ℕ} {ts : Kinds} {a : AbstractDeclarator} → AbstractForm names h stars ts a → h ≤ n → (rest : Kinds) → Closes rest
     → abstract names r n (ts ++ rest) ≡ Some ((a, 1 + h), rest)
 unfolding same_mark
 form_takes {names} {n} {r} inner (AbstractForm.simple h stars ts a sfs ss is ai read) deep rest ends =
@@ -127,7 +128,7 @@ form_takes {names} {n} {r} inner (AbstractForm.nested h zero ts a sfs inside inn
 form_takes {names} {n} {r} inner (AbstractForm.nested h (suc stars) ts a sfs inside inner_stars hi hs its ss hh has more is ai formed read) deep rest ends =
     plain_by names r n (ts ++ rest) (same_opens rest is refl) ∙ starred_takes inner (AbstractForm.nested h (suc stars) ts a sfs inside inner_stars hi hs its ss hh has more is ai formed read) deep rest ends
 
-pub abstract_takes : (names : List (List ℕ)) (n : ℕ) (r : Readers) → AreComplete names n r → (h : ℕ) (ts : Kinds) (a : Abstract) → h ≤ suc n → AbstractReads names h ts a → Takes (abstract names r n) Closes h ts a
+pub abstract_takes : (names : List (List ℕ)) (n : ℕ) (r : Readers) → AreComplete names n r → (h : ℕ) (ts : Kinds) (a : AbstractDeclarator) → h ≤ suc n → AbstractReads names h ts a → Takes (abstract names r n) Closes h ts a
 unfolding same_mark
 abstract_takes names n r inner h ts a deep (AbstractReads.open_form _ _ _ stars hf hi formed) rest ends = rw hi (form_takes inner formed (omega arith) rest ends)
 abstract_takes names n r inner h ts a deep (AbstractReads.in_parentheses _ _ _ stars hf its hi some is formed) rest ends =

@@ -3,7 +3,7 @@ use Rattle.std.specs.Prelude.{◌≡◌, ℕ, ◌<◌, ◌≤◌, ◌⊎◌, Boo
 use Rattle.c_tokens.specs.declared.token.Kind.TheVariants.{Mark}
 use Rattle.c_tokens.specs.declared.token.Mark.{Mark as MarkName}
 use Rattle.c_tokens.specs.declared.token.Mark.TheVariants as mark
-use Rattle.c_tree.specs.declared.expression.Abstract.{Abstract}
+use Rattle.c_tree.specs.declared.expression.AbstractDeclarator.{AbstractDeclarator}
 use Rattle.c_tree.specs.declared.expression.Declarator.{Declarator}
 use Rattle.c_tree.specs.declared.expression.Direct.{Direct}
 use Rattle.c_tree.specs.declared.expression.Expr.{Expr}
@@ -68,7 +68,7 @@ pub record AreComplete (names : List (List ℕ)) (depth : ℕ) (r : Readers) : T
   pub declarator : (h : ℕ) (x : List ℕ) (ts : Kinds) (d : Declarator) → h ≤ depth → DeclaratorReads names h x ts d → Takes r.declarator LacksSuffix h ts d
   pub direct : (h : ℕ) (x : List ℕ) (ts : Kinds) (d : Direct) → h ≤ depth → DirectReads names h x ts d → (rest : Kinds)
       → (b : Bracketed) × (direct_of b.core ≡ d) × (b.height ≡ h) × (r.direct (ts ++ rest) ≡ Some (b, rest))
-  pub abstract : (h : ℕ) (ts : Kinds) (a : Abstract) → h ≤ depth → AbstractReads names h ts a → Takes r.abstract Closes h ts a
+  pub abstract : (h : ℕ) (ts : Kinds) (a : AbstractDeclarator) → h ≤ depth → AbstractReads names h ts a → Takes r.abstract Closes h ts a
   pub params : (h : ℕ) (ts : Kinds) (p : Params) → h ≤ depth → ParamsRead names h ts p → Takes r.params ClosesParenthesis h ts p
 
 abbrev pub ReadersAreComplete : Type 0

@@ -7,17 +7,17 @@ use Rattle.c_tokens.specs.declared.token.Kind.{Kind}
 use Rattle.c_tokens.specs.declared.token.Kind.TheVariants.{Word, Name, Number, Text, Mark}
 use Rattle.c_tokens.specs.declared.token.Mark.{Mark as MarkName}
 use Rattle.c_tokens.specs.declared.token.Mark.TheVariants as mark
-use Rattle.c_tree.specs.declared.expression.AssignOperator.TheVariants as assign
-use Rattle.c_tree.specs.declared.expression.BinaryOperator.TheVariants as binary
-use Rattle.c_tree.specs.declared.expression.UnaryOperator.{UnaryOperator}
-use Rattle.c_tree.specs.declared.expression.UnaryOperator.TheVariants as unary
-use Rattle.c_tree.specs.declared.expression.Abstract.{Abstract}
+use Rattle.c_tree.specs.declared.operator.AssignOperator.TheVariants as assign
+use Rattle.c_tree.specs.declared.operator.BinaryOperator.TheVariants as binary
+use Rattle.c_tree.specs.declared.operator.UnaryOperator.{UnaryOperator}
+use Rattle.c_tree.specs.declared.operator.UnaryOperator.TheVariants as unary
+use Rattle.c_tree.specs.declared.expression.AbstractDeclarator.{AbstractDeclarator}
 use Rattle.c_tree.specs.declared.expression.Declarator.{Declarator}
 use Rattle.c_tree.specs.declared.expression.Direct.{Direct}
 use Rattle.c_tree.specs.declared.expression.Direct.TheVariants as direct_as
 use Rattle.c_tree.specs.declared.expression.Expr.{Expr}
 use Rattle.c_tree.specs.declared.expression.Expr.TheVariants as e
-use Rattle.c_tree.specs.declared.expression.Member.{Member, roll-Member}
+use Rattle.c_tree.specs.declared.expression.MemberDecl.{MemberDecl, roll-MemberDecl}
 use Rattle.c_tree.specs.declared.expression.Param.{Param}
 use Rattle.c_tree.specs.declared.expression.Param.TheVariants as param_as
 use Rattle.c_tree.specs.declared.expression.Params.{Params}
@@ -28,7 +28,7 @@ use Rattle.c_tree.specs.declared.expression.Suffix.{Suffix}
 use Rattle.c_tree.specs.declared.expression.Suffix.TheVariants as suffix_as
 use Rattle.c_tree.specs.declared.expression.TypeWord.{TypeWord, roll-TypeWord}
 use Rattle.c_tree.specs.Marks.{Kinds, greatest_pairs, assign_level, conditional_level, cast_level, unary_level, postfix_level, primary_level, binary_level}
-use Rattle.c_tree.specs.Grammar.{struct_with, declarator as declarator_of, abstract as abstract_of}
+use Rattle.c_tree.specs.Trees.{struct_with, declarator as declarator_of, abstract as abstract_of}
 use Rattle.c_expr.specs.declared.operand.Continuation.{Continuation}
 use Rattle.c_expr.specs.declared.operand.Continuation.TheVariants as goes
 use Rattle.c_expr.specs.declared.operand.Operand.{Operand}
@@ -58,9 +58,9 @@ continuation_of mark.Decrement = Some goes.Decrement
 continuation_of mark.Question = Some goes.Conditional
 continuation_of mark.LogicalOr = Some (goes.Binary binary.LogicalOr)
 continuation_of mark.LogicalAnd = Some (goes.Binary binary.LogicalAnd)
-continuation_of mark.Bar = Some (goes.Binary binary.Or)
-continuation_of mark.Caret = Some (goes.Binary binary.ExclusiveOr)
-continuation_of mark.Ampersand = Some (goes.Binary binary.And)
+continuation_of mark.Bar = Some (goes.Binary binary.BitwiseOr)
+continuation_of mark.Caret = Some (goes.Binary binary.BitwiseExclusiveOr)
+continuation_of mark.Ampersand = Some (goes.Binary binary.BitwiseAnd)
 continuation_of mark.Equal = Some (goes.Binary binary.Equal)
 continuation_of mark.NotEqual = Some (goes.Binary binary.NotEqual)
 continuation_of mark.Less = Some (goes.Binary binary.Less)
@@ -80,9 +80,9 @@ continuation_of mark.MinusAssign = Some (goes.Assign assign.Subtract)
 continuation_of mark.StarAssign = Some (goes.Assign assign.Multiply)
 continuation_of mark.SlashAssign = Some (goes.Assign assign.Divide)
 continuation_of mark.PercentAssign = Some (goes.Assign assign.Remainder)
-continuation_of mark.AmpersandAssign = Some (goes.Assign assign.And)
-continuation_of mark.BarAssign = Some (goes.Assign assign.Or)
-continuation_of mark.CaretAssign = Some (goes.Assign assign.ExclusiveOr)
+continuation_of mark.AmpersandAssign = Some (goes.Assign assign.BitwiseAnd)
+continuation_of mark.BarAssign = Some (goes.Assign assign.BitwiseOr)
+continuation_of mark.CaretAssign = Some (goes.Assign assign.BitwiseExclusiveOr)
 continuation_of mark.ShiftLeftAssign = Some (goes.Assign assign.ShiftLeft)
 continuation_of mark.ShiftRightAssign = Some (goes.Assign assign.ShiftRight)
 continuation_of _ = None
@@ -181,7 +181,7 @@ pub record Readers : Type 0 where
   pub spec : Bool → Parser (Tall Spec)
   pub declarator : Parser (Tall Declarator)
   pub direct : Parser Bracketed
-  pub abstract : Parser (Tall Abstract)
+  pub abstract : Parser (Tall AbstractDeclarator)
   pub params : Parser (Tall Params)
 
 -- below the least depth nothing stands
@@ -266,7 +266,7 @@ module _ (names : List (List ℕ)) where
     opens_abstract ts = sees mark.LeftParenthesis ts && sees mark.Star (behind ts)
 
     -- behind the stars, in parentheses
-    unfoldable pub nested_abstract : ℕ → Parser (Tall Abstract)
+    unfoldable pub nested_abstract : ℕ → Parser (Tall AbstractDeclarator)
     nested_abstract stars = do
       expect mark.LeftParenthesis
       inside ← inner.abstract
@@ -275,21 +275,21 @@ module _ (names : List (List ℕ)) where
       pure (abstract_of stars (Some inside.0) ss.0, 1 + max inside.1 ss.1)
 
     -- behind the stars
-    unfoldable pub abstract_behind : ℕ → Parser (Tall Abstract)
+    unfoldable pub abstract_behind : ℕ → Parser (Tall AbstractDeclarator)
     abstract_behind stars = λ ts.
         if opens_abstract ts then nested_abstract stars ts
         else (suffixes >>= (λ ss. pure (abstract_of stars None ss.0, 1 + ss.1))) ts
 
-    unfoldable pub starred : Parser (Tall Abstract)
+    unfoldable pub starred : Parser (Tall AbstractDeclarator)
     starred = λ ts. let stars = run mark.Star ts in abstract_behind stars.0 stars.1
 
     -- one in parentheses, with the suffixes behind it
-    abbrev pub with_suffixes : ℕ → Tall Abstract → Tall (List Suffix) → Parser (Tall Abstract)
+    abbrev pub with_suffixes : ℕ → Tall AbstractDeclarator → Tall (List Suffix) → Parser (Tall AbstractDeclarator)
     with_suffixes limit inside ss =
         if is_none ss.0 then pure inside
         else (if nat_le inside.1 limit then pure (abstract_of 0 (Some inside.0) ss.0, 1 + max inside.1 ss.1) else mismatch)
 
-    unfoldable pub bracketed_abstract : ℕ → Parser (Tall Abstract)
+    unfoldable pub bracketed_abstract : ℕ → Parser (Tall AbstractDeclarator)
     bracketed_abstract limit = do
       expect mark.LeftParenthesis
       inside ← starred
@@ -297,7 +297,7 @@ module _ (names : List (List ℕ)) where
       ss ← suffixes
       with_suffixes limit inside ss
 
-    unfoldable pub abstract : ℕ → Parser (Tall Abstract)
+    unfoldable pub abstract : ℕ → Parser (Tall AbstractDeclarator)
     abstract limit = λ ts. if opens_abstract ts then bracketed_abstract limit ts else starred ts
 
     -- ---- declarators
@@ -340,14 +340,14 @@ module _ (names : List (List ℕ)) where
 
     -- ---- specs
 
-    unfoldable pub member : Parser (Tall Member)
+    unfoldable pub member : Parser (Tall MemberDecl)
     member = do
       s ← inner.spec true
       ds ← separated inner.declarator
       expect mark.Semicolon
-      pure (roll-Member (record { spec = s.0; declarators = ds.0 }), max s.1 ds.1)
+      pure (roll-MemberDecl (record { spec = s.0; declarators = ds.0 }), max s.1 ds.1)
 
-    unfoldable pub members_from : ℕ → List Member → ℕ → Parser (Tall (List Member))
+    unfoldable pub members_from : ℕ → List MemberDecl → ℕ → Parser (Tall (List MemberDecl))
     members_from zero found height = mismatch
     members_from (suc n) found height = do
       m ← member
@@ -355,7 +355,7 @@ module _ (names : List (List ℕ)) where
       if ends then pure (found ++ m.0 ∷ [], max height m.1) else members_from n (found ++ m.0 ∷ []) (max height m.1)
 
     -- at least one, and the brace behind them
-    unfoldable pub members : Parser (Tall (List Member))
+    unfoldable pub members : Parser (Tall (List MemberDecl))
     members = λ ts. members_from (length ts) [] 0 ts
 
     unfoldable pub struct_body : List ℕ → Parser (Tall Spec)
@@ -492,7 +492,7 @@ module _ (names : List (List ℕ)) where
     prefix m = prefix_by m
 
     abbrev pub head_by : Kind → Parser Operand
-    head_by (Name x) = if is_type_name names x then mismatch else pure (leaf (e.Name x))
+    head_by (Name x) = if is_type_name names x then mismatch else pure (leaf (e.Identifier x))
     head_by (Number n) = pure (leaf (e.Number n))
     head_by (Text bytes) = pure (leaf (e.Text bytes))
     head_by (Word word.Sizeof) = sizeof
@@ -513,7 +513,7 @@ module _ (names : List (List ℕ)) where
 
   -- ---- parameters, by the readers of their own depth
 
-  module _ (spec : Bool → Parser (Tall Spec)) (declarator : Parser (Tall Declarator)) (abstract : Parser (Tall Abstract)) where
+  module _ (spec : Bool → Parser (Tall Spec)) (declarator : Parser (Tall Declarator)) (abstract : Parser (Tall AbstractDeclarator)) where
     unfoldable pub param : Parser (Tall Param)
     param = do
       s ← spec true
@@ -529,7 +529,7 @@ module _ (names : List (List ℕ)) where
     unfoldable pub params : Parser (Tall Params)
     params = λ ts.
         if sees mark.RightParenthesis ts then Some ((params_as.Nothing, 0), ts)
-        else (if is_void_alone ts then Some ((params_as.Void, 0), behind ts)
+        else (if is_void_alone ts then Some ((params_as.VoidAlone, 0), behind ts)
         else (separated param >>= (λ given. pure (params_as.List given.0, given.1))) ts)
 
   -- with nodes at most so deep

@@ -303,7 +303,7 @@ where
                 if self.names.contains(name.as_slice()) {
                     return Err(Failure::Mismatch);
                 }
-                Ok(Operand::leaf(Expr::Name(name_of(self.alloc, name)?)))
+                Ok(Operand::leaf(Expr::Identifier(name_of(self.alloc, name)?)))
             }
             Kind::Number(n) => Ok(Operand::leaf(Expr::Number(*n))),
             Kind::Text(bytes) => {

@@ -11,7 +11,7 @@ use crate::error::Failure;
 use crate::grammar::Grammar;
 use crate::names::Names;
 use c_tokens::Mark;
-use c_tree::{Abstract, Expr, Params};
+use c_tree::{AbstractDeclarator, Expr, Params};
 use sqlite_items::Boxed;
 use std::alloc::Global;
 
@@ -27,7 +27,7 @@ where
         &self,
         tokens: &mut Cursor<'_>,
         stars: u32,
-    ) -> Result<(Abstract, usize), Failure>
+    ) -> Result<(AbstractDeclarator, usize), Failure>
         requires some { 0 < self.now.depth }
         requires nests { Nests self.now.depth (F.pre self.now.expr) (F.post self.now.expr) (G.pre self.now.params) (G.post self.now.params) }
         ensures reads { Reads (reader.nested_abstract self.now.names.now (below self.now.names.now self.now.depth) stars tokens.old) result tokens.new }
@@ -39,7 +39,7 @@ where
         let (suffixes, suffix_height) = self.suffixes(tokens)?;
         let bracketed = Some(Boxed::new(self.alloc, inside)?);
         Ok((
-            Abstract {
+            AbstractDeclarator {
                 stars,
                 bracketed,
                 suffixes,
@@ -51,7 +51,7 @@ where
     /// Stars, and what stands behind them.
     #[cycle(nameless)]
     #[tactic(auto, unfolding(crate::specs::Readers::starred, crate::specs::Readers::abstract_behind))]
-    fn starred(&self, tokens: &mut Cursor<'_>) -> Result<(Abstract, usize), Failure>
+    fn starred(&self, tokens: &mut Cursor<'_>) -> Result<(AbstractDeclarator, usize), Failure>
         requires some { 0 < self.now.depth }
         requires nests { Nests self.now.depth (F.pre self.now.expr) (F.post self.now.expr) (G.pre self.now.params) (G.post self.now.params) }
         ensures reads { Reads (reader.starred self.now.names.now (below self.now.names.now self.now.depth) tokens.old) result tokens.new }
@@ -63,7 +63,7 @@ where
         }
         let (suffixes, height) = self.suffixes(tokens)?;
         Ok((
-            Abstract {
+            AbstractDeclarator {
                 stars,
                 bracketed: None,
                 suffixes,
@@ -75,7 +75,10 @@ where
     /// One in parentheses, which stand for nothing where no suffixes stand behind them.
     #[cycle(nameless)]
     #[tactic(auto, unfolding(crate::specs::Readers::bracketed_abstract))]
-    fn bracketed_abstract(&self, tokens: &mut Cursor<'_>) -> Result<(Abstract, usize), Failure>
+    fn bracketed_abstract(
+        &self,
+        tokens: &mut Cursor<'_>,
+    ) -> Result<(AbstractDeclarator, usize), Failure>
         requires some { 0 < self.now.depth }
         requires nests { Nests self.now.depth (F.pre self.now.expr) (F.post self.now.expr) (G.pre self.now.params) (G.post self.now.params) }
         ensures reads { Reads (reader.bracketed_abstract self.now.names.now (below self.now.names.now self.now.depth) (self.now.depth - 1) tokens.old) result tokens.new }
@@ -93,7 +96,7 @@ where
         }
         let bracketed = Some(Boxed::new(self.alloc, inside)?);
         Ok((
-            Abstract {
+            AbstractDeclarator {
                 stars: 0,
                 bracketed,
                 suffixes,
@@ -104,7 +107,10 @@ where
 
     /// A declarator without a name.
     #[cycle(nameless)]
-    pub fn abstract_declarator(&self, tokens: &mut Cursor<'_>) -> Result<(Abstract, usize), Failure>
+    pub fn abstract_declarator(
+        &self,
+        tokens: &mut Cursor<'_>,
+    ) -> Result<(AbstractDeclarator, usize), Failure>
         requires nests { Nests self.now.depth (F.pre self.now.expr) (F.post self.now.expr) (G.pre self.now.params) (G.post self.now.params) }
         ensures reads { Reads ((readers self.now.names.now self.now.depth).abstract tokens.old) result tokens.new }
         ensures tall { IfOk result (λ a. a.1 ≤ self.now.depth) }

@@ -92,7 +92,11 @@ fn with_part(left: Boxed<Expr>, part: Part) -> Expr
         Part::Increment => Expr::PostIncrement(left),
         Part::Decrement => Expr::PostDecrement(left),
         Part::Binary(op, right) => Expr::Binary(left, op, right),
-        Part::Conditional(first, second) => Expr::Conditional(left, first, second),
+        Part::Conditional(first, second) => Expr::Conditional {
+            condition: left,
+            then_value: first,
+            else_value: second,
+        },
         Part::Assign(op, right) => Expr::Assign(left, op, right),
     }
 }

@@ -13,9 +13,9 @@ use crate::front::{free_name, looks_named, name_of};
 use crate::grammar::Grammar;
 use crate::names::Names;
 use c_tokens::{Keyword, Kind, Mark};
-use c_tree::{Expr, Member, Param, Params, Spec, TypeWord};
+use c_tree::{Expr, MemberDecl, Param, Params, Spec, TypeWord};
 use c_types::Name;
-use sqlite_items::Items;
+use sqlite_items::{Boxed, Items};
 use std::alloc::Global;
 
 impl<'n, F, G> Grammar<'n, F, G>
@@ -26,7 +26,7 @@ where
     /// One line of a struct's body.
     #[cycle(spec)]
     #[tactic(auto, unfolding(crate::specs::Readers::member))]
-    fn member(&self, tokens: &mut Cursor<'_>) -> Result<(Member, usize), Failure>
+    fn member(&self, tokens: &mut Cursor<'_>) -> Result<(MemberDecl, usize), Failure>
         requires nests { Nests self.now.depth (F.pre self.now.expr) (F.post self.now.expr) (G.pre self.now.params) (G.post self.now.params) }
         ensures reads { Reads (reader.member self.now.names.now (below self.now.names.now self.now.depth) tokens.old) result tokens.new }
         ensures tall { IfOk result (λ m. m.1 < self.now.depth) }
@@ -38,12 +38,12 @@ where
         let (spec, spec_height) = inner.spec(tokens, true)?;
         let (declarators, height) = inner.declarators(tokens)?;
         tokens.expect(Mark::Semicolon)?;
-        Ok((Member { spec, declarators }, spec_height.max(height)))
+        Ok((MemberDecl { spec, declarators }, spec_height.max(height)))
     }
 
     /// At least one member, and the `}` behind them.
     #[cycle(spec)]
-    fn members(&self, tokens: &mut Cursor<'_>) -> Result<(Items<Member>, usize), Failure>
+    fn members(&self, tokens: &mut Cursor<'_>) -> Result<(Items<MemberDecl>, usize), Failure>
         requires nests { Nests self.now.depth (F.pre self.now.expr) (F.post self.now.expr) (G.pre self.now.params) (G.post self.now.params) }
         ensures reads { Reads (reader.members self.now.names.now (below self.now.names.now self.now.depth) tokens.old) result tokens.new }
         ensures tall { IfOk result (λ ms. ms.1 < self.now.depth) }
@@ -132,8 +132,11 @@ where
         Ok((TypeWord { spec, declarator }, 1 + spec_height.max(height)))
     }
 
-    /// A type word of the depth below.
-    pub fn inner_type_word(&self, tokens: &mut Cursor<'_>) -> Result<(TypeWord, usize), Failure>
+    /// A type word of the depth below, in a box.
+    pub fn inner_type_word(
+        &self,
+        tokens: &mut Cursor<'_>,
+    ) -> Result<(Boxed<TypeWord>, usize), Failure>
         requires { Nests self.now.depth (F.pre self.now.expr) (F.post self.now.expr) (G.pre self.now.params) (G.post self.now.params) }
         ensures reads { Reads ((below self.now.names.now self.now.depth).type_word tokens.old) result tokens.new }
         ensures tall { IfOk result (λ e. e.1 ≤ self.now.depth - 1) }
@@ -141,7 +144,8 @@ where
         if self.depth == 0 {
             return Err(Failure::Mismatch);
         }
-        self.inner().type_word(tokens)
+        let (word, height) = self.inner().type_word(tokens)?;
+        Ok((Boxed::new(self.alloc, word)?, height))
     }
 
     /// One parameter.
@@ -203,7 +207,7 @@ where
         }
         if self.is_void_alone(tokens) {
             tokens.skip();
-            return Ok((Params::Void, 0));
+            return Ok((Params::VoidAlone, 0));
         }
         let (given, height) = self.param_list(tokens)?;
         Ok((Params::List(given), height))

@@ -5,7 +5,7 @@ use Rattle.c_tokens.specs.declared.token.Keyword.TheVariants as word
 use Rattle.c_tokens.specs.declared.token.Kind.{Kind}
 use Rattle.c_tokens.specs.declared.token.Kind.TheVariants.{Word, Mark}
 use Rattle.c_tokens.specs.declared.token.Mark.TheVariants as mark
-use Rattle.c_tree.specs.declared.statement.BlockPart.{BlockPart}
+use Rattle.c_tree.specs.declared.statement.BlockItem.{BlockItem}
 use Rattle.c_tree.specs.declared.statement.Init.{Init}
 use Rattle.c_tree.specs.declared.statement.Stmt.{Stmt}
 use Rattle.c_tree.specs.declared.statement.Stmt.TheVariants as stmt_as
@@ -47,7 +47,7 @@ module _ (names : List (List ℕ)) (depth : ℕ) (r : Readers) (sound : AreSound
           (λ none more. tall_answered (inner ts) _ _ more (λ s hs ks read last. let x = inner_sound ts (s, hs) ks read in
           answer (λ p ks. Read depth (λ h ts p. PartReads names h ts p) ts p ks) last (x.front, x.split, x.deep, PartReads.statement _ _ _ s x.closed refl x.read)))
 
-      parts_sound : (n : ℕ) (found : List BlockPart) (height : ℕ) (ts : Kinds) (all : Tall (List BlockPart)) (rest : Kinds) → parts_from names r init inner n found height ts ≡ Some (all, rest)
+      parts_sound : (n : ℕ) (found : List BlockItem) (height : ℕ) (ts : Kinds) (all : Tall (List BlockItem)) (rest : Kinds) → parts_from names r init inner n found height ts ≡ Some (all, rest)
           → AllRead depth (λ h ts ps. PartsRead names h ts ps) found height ts all (Mark mark.RightBrace ∷ rest)
       unfolding parts_from
       parts_sound zero found height ts all rest is = absurd (cc)

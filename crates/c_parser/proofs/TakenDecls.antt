@@ -7,7 +7,7 @@ use Rattle.c_tree.specs.declared.expression.Declarator.{Declarator}
 use Rattle.c_tree.specs.declared.expression.Expr.{Expr}
 use Rattle.c_tree.specs.declared.expression.Spec.{Spec}
 use Rattle.c_tree.specs.declared.statement.Decl.{Decl}
-use Rattle.c_tree.specs.declared.statement.ForFirst.{ForFirst}
+use Rattle.c_tree.specs.declared.statement.ForInit.{ForInit}
 use Rattle.c_tree.specs.declared.statement.Init.{Init}
 use Rattle.c_tree.specs.declared.statement.InitDeclarator.{InitDeclarator}
 use Rattle.c_tree.specs.Marks.{Kinds, wrapped, assign_level}
@@ -245,7 +245,7 @@ module _ (names : List (List ℕ)) (depth : ℕ) (r : Readers) (complete : AreCo
     pub decl_begins : {h : ℕ} {ts : Kinds} {a : Decl} → DeclReads names h ts a → Begins (CanBeginSpec names) ts
     decl_begins (DeclReads.decl h ts a s declarators hs hd ss ds hh is ai sread dread) = Begins-same _ is (Begins-append _ (ss ++ ds) _ (Begins-append _ ss ds (SpecReads-begins sread)))
 
-    pub for_first_takes : {h : ℕ} {ts : Kinds} {f : ForFirst} → h ≤ depth → FirstReads names h ts f → (rest : Kinds) → for_first names r init (ts ++ rest) ≡ Some ((f, h), rest)
+    pub for_first_takes : {h : ℕ} {ts : Kinds} {f : ForInit} → h ≤ depth → FirstReads names h ts f → (rest : Kinds) → for_first names r init (ts ++ rest) ≡ Some ((f, h), rest)
     unfolding for_first
     for_first_takes deep (FirstReads.declared h ts f a fi read) rest = rw fi (if_yes (begins_spec names (ts ++ rest)) _ _ _ (spec_begins names _ (Begins-append _ ts rest (decl_begins read)))
         (then_takes _ _ (a, h) rest _ (decl_takes deep read rest) refl))

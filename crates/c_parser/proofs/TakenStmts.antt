@@ -6,8 +6,8 @@ use Rattle.c_tokens.specs.declared.token.Kind.TheVariants.{Word, Name, Number, T
 use Rattle.c_tokens.specs.declared.token.Mark.TheVariants as mark
 use Rattle.c_tree.specs.declared.expression.Expr.{Expr}
 use Rattle.c_tree.specs.declared.statement.Block.{Block}
-use Rattle.c_tree.specs.declared.statement.BlockPart.{BlockPart}
-use Rattle.c_tree.specs.declared.statement.ForFirst.{ForFirst}
+use Rattle.c_tree.specs.declared.statement.BlockItem.{BlockItem}
+use Rattle.c_tree.specs.declared.statement.ForInit.{ForInit}
 use Rattle.c_tree.specs.declared.statement.Init.{Init}
 use Rattle.c_tree.specs.declared.statement.Stmt.{Stmt}
 use Rattle.c_tree.specs.declared.statement.Stmt.TheVariants as stmt_as
@@ -32,24 +32,24 @@ module _ (names : List (List ℕ)) (depth : ℕ) (r : Readers) (complete : AreCo
     module _ (inner : Parser (Tall Stmt)) (inner_takes : StmtsTake names depth inner) where
       -- ---- blocks
 
-      part_begins : {h : ℕ} {ts : Kinds} {p : BlockPart} → PartReads names h ts p → Begins (λ k. CanBeginStatement names k ⊎ CanBeginSpec names k) ts
+      part_begins : {h : ℕ} {ts : Kinds} {p : BlockItem} → PartReads names h ts p → Begins (λ k. CanBeginStatement names k ⊎ CanBeginSpec names k) ts
       part_begins (PartReads.declaration h ts p d pi read) = begins_either _ (λ k. CanBeginStatement names k ⊎ CanBeginSpec names k) ts (λ k b. inr b) (decl_begins names depth r complete init init_takes read)
       part_begins (PartReads.statement h ts p s closed pi read) = begins_either _ (λ k. CanBeginStatement names k ⊎ CanBeginSpec names k) ts (λ k b. inl b) (StmtReads-begins read)
 
       -- parts, and the brace behind them
-      parts_begin : {h : ℕ} {ts : Kinds} {ps : List BlockPart} → PartsRead names h ts ps → (rest : Kinds) → Begins (CanFollowPart names) (ts ++ Mark mark.RightBrace ∷ rest)
+      parts_begin : {h : ℕ} {ts : Kinds} {ps : List BlockItem} → PartsRead names h ts ps → (rest : Kinds) → Begins (CanFollowPart names) (ts ++ Mark mark.RightBrace ∷ rest)
       parts_begin (PartsRead.no_part h ts ps hi is pi) rest = Begins-same (CanFollowPart names) (ap (λ k. k ++ Mark mark.RightBrace ∷ rest) is) (inr refl)
       parts_begin (PartsRead.more_parts h ts ps p others hp ho pts os hh is pi read more) rest =
           Begins-append (CanFollowPart names) ts _ (Begins-same _ is (Begins-append (CanFollowPart names) pts os (begins_either _ (CanFollowPart names) pts (λ k b. inl b) (part_begins read))))
 
-      part_takes : {h : ℕ} {ts : Kinds} {p : BlockPart} → h ≤ depth → PartReads names h ts p → (rest : Kinds) → sees_word word.Else rest ≡ false → part names r init inner (ts ++ rest) ≡ Some ((p, h), rest)
+      part_takes : {h : ℕ} {ts : Kinds} {p : BlockItem} → h ≤ depth → PartReads names h ts p → (rest : Kinds) → sees_word word.Else rest ≡ false → part names r init inner (ts ++ rest) ≡ Some ((p, h), rest)
       unfolding part
       part_takes deep (PartReads.declaration h ts p d pi read) rest none = rw pi (if_yes (begins_spec names (ts ++ rest)) _ _ _ (spec_begins names _ (Begins-append _ ts rest (decl_begins names depth r complete init init_takes read)))
           (then_takes _ _ (d, h) rest _ (decl_takes names depth r complete init init_takes deep read rest) refl))
       part_takes deep (PartReads.statement h ts p s closed pi read) rest none = rw pi (if_no (begins_spec names (ts ++ rest)) _ _ _ (statement_no_spec names _ (Begins-append _ ts rest (StmtReads-begins read)))
           (then_takes _ _ (s, h) rest _ (inner_takes _ _ _ _ deep read rest (λ _. none)) refl))
 
-      parts_take : {h : ℕ} {ts : Kinds} {ps : List BlockPart} → h ≤ depth → PartsRead names h ts ps → (rest : Kinds) (n : ℕ) → length ts < n → (found : List BlockPart) (height : ℕ)
+      parts_take : {h : ℕ} {ts : Kinds} {ps : List BlockItem} → h ≤ depth → PartsRead names h ts ps → (rest : Kinds) (n : ℕ) → length ts < n → (found : List BlockItem) (height : ℕ)
           → parts_from names r init inner n found height (ts ++ Mark mark.RightBrace ∷ rest) ≡ Some ((found ++ ps, max height h), rest)
       unfolding parts_from
       parts_take deep read rest zero enough found height = absurd (omega arith)
@@ -108,7 +108,7 @@ module _ (names : List (List ℕ)) (depth : ℕ) (r : Readers) (complete : AreCo
           while_no_else : (ks : Kinds) → sees_word word.Else (Word word.While ∷ ks) ≡ false
           while_no_else ks = no_else names (Word word.While ∷ ks) (inl (inl refl))
 
-      for_takes : {hf hc hs hb : ℕ} {fs cs ss bs : Kinds} {f : ForFirst} {c p : Option Expr} {b : Stmt} {closed : Bool} → hf ≤ depth → hc ≤ depth → hs ≤ depth → hb ≤ depth → FirstReads names hf fs f → OptionReads names hc cs c → OptionReads names hs ss p → StmtReads names closed hb bs b
+      for_takes : {hf hc hs hb : ℕ} {fs cs ss bs : Kinds} {f : ForInit} {c p : Option Expr} {b : Stmt} {closed : Bool} → hf ≤ depth → hc ≤ depth → hs ≤ depth → hb ≤ depth → FirstReads names hf fs f → OptionReads names hc cs c → OptionReads names hs ss p → StmtReads names closed hb bs b
           → (rest : Kinds) → (closed ≡ false → sees_word word.Else rest ≡ false) → for_behind names r init inner ((wrapped 1 (fs ++ cs ++ Mark mark.Semicolon ∷ ss) ++ bs) ++ rest) ≡ Some ((stmt_as.For f c p b, 1 + max hf (max hc (max hs hb))), rest)
       unfolding for_behind
       for_takes {hf} {hc} {hs} {hb} {fs} {cs} {ss} {bs} {f} {c} {p} {b} df dc ds db first test step body rest none =

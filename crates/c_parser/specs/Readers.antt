@@ -10,11 +10,11 @@ use Rattle.c_tree.specs.declared.expression.Declarator.{Declarator}
 use Rattle.c_tree.specs.declared.expression.Expr.{Expr}
 use Rattle.c_tree.specs.declared.expression.Spec.{Spec}
 use Rattle.c_tree.specs.declared.statement.Block.{Block, roll-Block}
-use Rattle.c_tree.specs.declared.statement.BlockPart.{BlockPart}
-use Rattle.c_tree.specs.declared.statement.BlockPart.TheVariants as part_as
+use Rattle.c_tree.specs.declared.statement.BlockItem.{BlockItem}
+use Rattle.c_tree.specs.declared.statement.BlockItem.TheVariants as part_as
 use Rattle.c_tree.specs.declared.statement.Decl.{Decl}
-use Rattle.c_tree.specs.declared.statement.ForFirst.{ForFirst}
-use Rattle.c_tree.specs.declared.statement.ForFirst.TheVariants as first_as
+use Rattle.c_tree.specs.declared.statement.ForInit.{ForInit}
+use Rattle.c_tree.specs.declared.statement.ForInit.TheVariants as first_as
 use Rattle.c_tree.specs.declared.statement.Init.{Init}
 use Rattle.c_tree.specs.declared.statement.Init.TheVariants as init_as
 use Rattle.c_tree.specs.declared.statement.InitDeclarator.{InitDeclarator}
@@ -154,7 +154,7 @@ module _ (names : List (List ℕ)) (r : Readers) where
       if is_empty then pure (record { spec = s.0; declarators = [] }, s.1) else r.declarator >>= decl_of s
 
     -- the first part of a `for`, with its `;`
-    unfoldable pub for_first : Parser (Tall ForFirst)
+    unfoldable pub for_first : Parser (Tall ForInit)
     for_first = λ ts.
         if begins_spec names ts then (decl >>= (λ d. pure (first_as.Decl d.0, d.1))) ts
         else (option_to mark.Semicolon >>= (λ o. pure (first_as.Expr o.0, o.1))) ts
@@ -162,19 +162,19 @@ module _ (names : List (List ℕ)) (r : Readers) where
     -- ---- statements, by those of the same depth
 
     module _ (inner : Parser (Tall Stmt)) where
-      unfoldable pub part : Parser (Tall BlockPart)
+      unfoldable pub part : Parser (Tall BlockItem)
       part = λ ts.
           if begins_spec names ts then (decl >>= (λ d. pure (part_as.Decl d.0, d.1))) ts
           else (inner >>= (λ s. pure (part_as.Stmt s.0, s.1))) ts
 
-      unfoldable pub parts_from : ℕ → List BlockPart → ℕ → Parser (Tall (List BlockPart))
+      unfoldable pub parts_from : ℕ → List BlockItem → ℕ → Parser (Tall (List BlockItem))
       parts_from zero found height = mismatch
       parts_from (suc n) found height = do
         ends ← eat mark.RightBrace
         if ends then pure (found, height) else part >>= (λ p. parts_from n (found ++ p.0 ∷ []) (max height p.1))
 
       -- the parts of a block, and the brace behind them
-      unfoldable pub parts : Parser (Tall (List BlockPart))
+      unfoldable pub parts : Parser (Tall (List BlockItem))
       parts = λ ts. parts_from (length ts) [] 0 ts
 
       unfoldable pub block : Parser (Tall Block)

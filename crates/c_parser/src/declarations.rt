@@ -7,7 +7,7 @@ ghost use Rattle.c_parser.specs.Readers as reader;
 
 use c_expr::{Cursor, Failure, Names, begins_spec, declarator, expr, spec};
 use c_tokens::Mark;
-use c_tree::{Decl, Declarator, Expr, ForFirst, Init, InitDeclarator, Spec};
+use c_tree::{Decl, Declarator, Expr, ForInit, Init, InitDeclarator, Spec};
 use sqlite_items::Items;
 use std::alloc::Global;
 
@@ -213,15 +213,15 @@ pub(crate) fn for_first(
     names: &Names,
     tokens: &mut Cursor<'_>,
     depth: usize,
-) -> Result<(ForFirst, usize), Failure>
+) -> Result<(ForInit, usize), Failure>
     requires { depth < 2 ^ 31 }
     ensures reads { Reads (reader.for_first names.now (readers names.now depth) (reader.init names.now depth) tokens.old) result tokens.new }
     ensures tall { IfOk result (λ f. f.1 ≤ depth) }
 {
     if begins_spec(names, tokens) {
         let (decl, height) = decl(alloc, names, tokens, depth)?;
-        return Ok((ForFirst::Decl(decl), height));
+        return Ok((ForInit::Decl(decl), height));
     }
     let (expr, height) = option_to(alloc, names, tokens, depth, Mark::Semicolon)?;
-    Ok((ForFirst::Expr(expr), height))
+    Ok((ForInit::Expr(expr), height))
 }

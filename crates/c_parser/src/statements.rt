@@ -13,7 +13,7 @@ use crate::form::{Form, form_of};
 use crate::words::{eat_word, expect_word};
 use c_expr::{Cursor, Failure, Names, begins_spec};
 use c_tokens::{Keyword, Kind, Mark};
-use c_tree::{Block, BlockPart, Expr, Stmt};
+use c_tree::{Block, BlockItem, Expr, Stmt};
 use sqlite_items::{Boxed, Items};
 use std::alloc::Global;
 
@@ -95,21 +95,21 @@ where
 
     /// A part of a block.
     #[tactic(auto, unfolding(crate::specs::Readers::part))]
-    fn part(&self, tokens: &mut Cursor<'_>) -> Result<(BlockPart, usize), Failure>
+    fn part(&self, tokens: &mut Cursor<'_>) -> Result<(BlockItem, usize), Failure>
         requires { Nests self.now.depth (F.pre self.now.stmt) (F.post self.now.stmt) }
         ensures reads { Reads (of_depth reader.part self.now.names.now self.now.depth tokens.old) result tokens.new }
         ensures tall { IfOk result (λ s. s.1 ≤ self.now.depth) }
     {
         if begins_spec(self.names, tokens) {
             let (decl, height) = decl(self.alloc, self.names, tokens, self.depth)?;
-            return Ok((BlockPart::Decl(decl), height));
+            return Ok((BlockItem::Decl(decl), height));
         }
         let (stmt, height) = self.inner(tokens)?;
-        Ok((BlockPart::Stmt(stmt), height))
+        Ok((BlockItem::Stmt(stmt), height))
     }
 
     /// The parts of a block, and the `}` behind them.
-    fn parts(&self, tokens: &mut Cursor<'_>) -> Result<(Items<BlockPart>, usize), Failure>
+    fn parts(&self, tokens: &mut Cursor<'_>) -> Result<(Items<BlockItem>, usize), Failure>
         requires { Nests self.now.depth (F.pre self.now.stmt) (F.post self.now.stmt) }
         ensures reads { Reads (of_depth reader.parts self.now.names.now self.now.depth tokens.old) result tokens.new }
         ensures tall { IfOk result (λ s. s.1 ≤ self.now.depth) }

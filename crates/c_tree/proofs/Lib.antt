@@ -1,8 +1,6 @@
-mod Printing
-mod Writing
-mod Keeping
-mod Reprints
-mod PrintingStatements
-mod ReprintStatements
-mod Spelling
-mod WritingSteps
+mod PrintedLemmas
+mod PrintedStatementsLemmas
+mod WrittenLemmas
+mod AppendedLemmas
+mod DeclaredNameLemmas
+mod round_trip

@@ -1,7 +1,14 @@
 pub mod Marks
+pub mod Operators
+pub mod Trees
 pub mod Grammar
 pub mod Statements
+pub mod Fold
+pub mod FoldStatements
+pub mod DeclaredName
 pub mod Printed
-pub mod Written
 pub mod PrintedStatements
-pub mod Back
+pub mod Written
+pub mod RoundTrip
+pub mod Theorems
+pub mod inner

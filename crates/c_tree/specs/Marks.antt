@@ -5,12 +5,12 @@ use Rattle.c_tokens.specs.declared.token.Kind.TheVariants.{Mark}
 use Rattle.c_tokens.specs.declared.token.Mark.{Mark as MarkName}
 use Rattle.c_tokens.specs.declared.token.Mark.TheVariants as mark
 use Rattle.c_tokens.specs.declared.token.Token.{Token}
-use Rattle.c_tree.specs.declared.expression.AssignOperator.{AssignOperator}
-use Rattle.c_tree.specs.declared.expression.AssignOperator.TheVariants as assign
-use Rattle.c_tree.specs.declared.expression.BinaryOperator.{BinaryOperator}
-use Rattle.c_tree.specs.declared.expression.BinaryOperator.TheVariants as binary
-use Rattle.c_tree.specs.declared.expression.UnaryOperator.{UnaryOperator}
-use Rattle.c_tree.specs.declared.expression.UnaryOperator.TheVariants as unary
+use Rattle.c_tree.specs.declared.operator.AssignOperator.{AssignOperator}
+use Rattle.c_tree.specs.declared.operator.AssignOperator.TheVariants as assign
+use Rattle.c_tree.specs.declared.operator.BinaryOperator.{BinaryOperator}
+use Rattle.c_tree.specs.declared.operator.BinaryOperator.TheVariants as binary
+use Rattle.c_tree.specs.declared.operator.UnaryOperator.{UnaryOperator}
+use Rattle.c_tree.specs.declared.operator.UnaryOperator.TheVariants as unary
 
 -- what tokens are, without their places
 abbrev pub Kinds : Type 0
@@ -39,18 +39,18 @@ assign_mark assign.Subtract = mark.MinusAssign
 assign_mark assign.Multiply = mark.StarAssign
 assign_mark assign.Divide = mark.SlashAssign
 assign_mark assign.Remainder = mark.PercentAssign
-assign_mark assign.And = mark.AmpersandAssign
-assign_mark assign.Or = mark.BarAssign
-assign_mark assign.ExclusiveOr = mark.CaretAssign
+assign_mark assign.BitwiseAnd = mark.AmpersandAssign
+assign_mark assign.BitwiseOr = mark.BarAssign
+assign_mark assign.BitwiseExclusiveOr = mark.CaretAssign
 assign_mark assign.ShiftLeft = mark.ShiftLeftAssign
 assign_mark assign.ShiftRight = mark.ShiftRightAssign
 
 abbrev pub binary_mark : BinaryOperator → MarkName
 binary_mark binary.LogicalOr = mark.LogicalOr
 binary_mark binary.LogicalAnd = mark.LogicalAnd
-binary_mark binary.Or = mark.Bar
-binary_mark binary.ExclusiveOr = mark.Caret
-binary_mark binary.And = mark.Ampersand
+binary_mark binary.BitwiseOr = mark.Bar
+binary_mark binary.BitwiseExclusiveOr = mark.Caret
+binary_mark binary.BitwiseAnd = mark.Ampersand
 binary_mark binary.Equal = mark.Equal
 binary_mark binary.NotEqual = mark.NotEqual
 binary_mark binary.Less = mark.Less
@@ -95,9 +95,9 @@ primary_level = 15
 abbrev pub binary_level : BinaryOperator → ℕ
 binary_level binary.LogicalOr = 2
 binary_level binary.LogicalAnd = 3
-binary_level binary.Or = 4
-binary_level binary.ExclusiveOr = 5
-binary_level binary.And = 6
+binary_level binary.BitwiseOr = 4
+binary_level binary.BitwiseExclusiveOr = 5
+binary_level binary.BitwiseAnd = 6
 binary_level binary.Equal = 7
 binary_level binary.NotEqual = 7
 binary_level binary.Less = 8

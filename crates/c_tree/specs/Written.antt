@@ -1,11 +1,10 @@
 -- The text that the printer writes for a token, and for tokens one after another.
-use Rattle.std.specs.Prelude.{◌≡◌, ℕ, List, [], ◌∷◌, ◌++◌, map, Option, Some, None, cond, nat_eq}
+use Rattle.std.specs.Prelude.{ℕ, List, [], ◌∷◌, ◌++◌, map, Option, Some, None, cond, nat_eq}
 use Rattle.std.specs.Fmt.{signed_decimal}
 use Rattle.std.specs.List.{flat_map}
 use Rattle.c_tokens.specs.declared.token.Kind.{Kind}
 use Rattle.c_tokens.specs.declared.token.Kind.TheVariants.{Word, Name, Number, Text, Mark}
 use Rattle.c_tokens.specs.Words.{keyword_text, mark_text}
-use Rattle.c_tokens.specs.Spell.{Spells}
 use Rattle.c_tokens.specs.Lex.{spaced}
 use Rattle.c_tree.specs.Marks.{Kinds}
 
@@ -36,16 +35,3 @@ text_of (Mark m) = mark_text m
 -- these tokens, each with a space behind it
 unfoldable pub written : Kinds → List ℕ
 written ts = spaced (map text_of ts)
-
--- some text is a token of this kind
-abbrev pub CanBeSpelled : Kind → Type 0
-CanBeSpelled kind = (text : List ℕ) × Spells kind text
-
--- and so is each of these
-abbrev pub AllSpelled : Kinds → Type 0
-AllSpelled [] = Unit {0}
-AllSpelled (t ∷ ts) = CanBeSpelled t × AllSpelled ts
-
--- the texts of these tokens are appended
-pub record Appends (before : List ℕ) (ts : Kinds) (after : List ℕ) : Type 0 where
-  pub is : after ≡ before ++ written ts

@@ -2,81 +2,19 @@
 
 ghost use Rattle.std.specs.Prelude.{◌≡◌, ◌∷◌, [], Some, map, OnOk};
 ghost use Rattle.c_tree.specs.Grammar.{star_kinds};
-ghost use Rattle.c_tree.specs.Marks.{assign_mark, binary_mark, unary_mark};
-ghost use Rattle.c_tree.specs.Printed.{joined, with_commas, body_kinds, printed_direct, sign, front_step, back_step, expr_parts, printed_expr, printed_spec, printed_member, printed_declarator, printed_suffix, printed_params, printed_param, printed_abstract, printed_type_word};
-ghost use Rattle.c_tree.specs.Written.{Appends};
+ghost use Rattle.c_tree.specs.Printed.{joined, with_commas, body_kinds, left_of_sign, sign, right_of_sign};
+ghost use Rattle.c_tree.specs.Printed.{printed_direct, printed_expr, printed_param, printed_params, printed_spec};
+ghost use Rattle.c_tree.specs.Printed.{printed_suffix, printed_abstract, printed_declarator, printed_member};
+ghost use Rattle.c_tree.specs.Printed.{printed_type_word};
+ghost use Rattle.c_tree.specs.inner.Appended.{Appends};
+ghost use Rattle.c_tree.specs.inner.PrintedParts.{expr_parts};
 
 use super::token::{push_mark, push_name, push_number, push_separator, push_text, push_word};
 use crate::expression::{
-    Abstract, AssignOperator, BinaryOperator, Declarator, Direct, Expr, Member, Param, Params,
-    Spec, Suffix, TypeWord, UnaryOperator,
+    AbstractDeclarator, Declarator, Direct, Expr, MemberDecl, Param, Params, Spec, Suffix, TypeWord,
 };
 use c_tokens::{Keyword, Mark};
 use std::alloc::AllocError;
-
-impl AssignOperator {
-    /// Its mark.
-    fn mark(self) -> Mark
-        ensures { result ≡ assign_mark self }
-    {
-        match self {
-            AssignOperator::Assign => Mark::Assign,
-            AssignOperator::Add => Mark::PlusAssign,
-            AssignOperator::Subtract => Mark::MinusAssign,
-            AssignOperator::Multiply => Mark::StarAssign,
-            AssignOperator::Divide => Mark::SlashAssign,
-            AssignOperator::Remainder => Mark::PercentAssign,
-            AssignOperator::And => Mark::AmpersandAssign,
-            AssignOperator::Or => Mark::BarAssign,
-            AssignOperator::ExclusiveOr => Mark::CaretAssign,
-            AssignOperator::ShiftLeft => Mark::ShiftLeftAssign,
-            AssignOperator::ShiftRight => Mark::ShiftRightAssign,
-        }
-    }
-}
-
-impl BinaryOperator {
-    /// Its mark.
-    fn mark(self) -> Mark
-        ensures { result ≡ binary_mark self }
-    {
-        match self {
-            BinaryOperator::LogicalOr => Mark::LogicalOr,
-            BinaryOperator::LogicalAnd => Mark::LogicalAnd,
-            BinaryOperator::Or => Mark::Bar,
-            BinaryOperator::ExclusiveOr => Mark::Caret,
-            BinaryOperator::And => Mark::Ampersand,
-            BinaryOperator::Equal => Mark::Equal,
-            BinaryOperator::NotEqual => Mark::NotEqual,
-            BinaryOperator::Less => Mark::Less,
-            BinaryOperator::Greater => Mark::Greater,
-            BinaryOperator::LessEqual => Mark::LessEqual,
-            BinaryOperator::GreaterEqual => Mark::GreaterEqual,
-            BinaryOperator::ShiftLeft => Mark::ShiftLeft,
-            BinaryOperator::ShiftRight => Mark::ShiftRight,
-            BinaryOperator::Add => Mark::Plus,
-            BinaryOperator::Subtract => Mark::Minus,
-            BinaryOperator::Multiply => Mark::Star,
-            BinaryOperator::Divide => Mark::Slash,
-            BinaryOperator::Remainder => Mark::Percent,
-        }
-    }
-}
-
-impl UnaryOperator {
-    /// Its mark.
-    fn mark(self) -> Mark
-        ensures { result ≡ unary_mark self }
-    {
-        match self {
-            UnaryOperator::Address => Mark::Ampersand,
-            UnaryOperator::Dereference => Mark::Star,
-            UnaryOperator::Negate => Mark::Minus,
-            UnaryOperator::Complement => Mark::Tilde,
-            UnaryOperator::Not => Mark::Exclamation,
-        }
-    }
-}
 
 /// Appends an expression, in parentheses where it is built of several tokens.
 #[cycle(expression)]
@@ -84,25 +22,25 @@ pub(super) fn push_expr(out: &mut Vec<u8>, expr: &Expr) -> Result<(), AllocError
     ensures { OnOk result (Appends out.old.items (printed_expr expr.now) out.new.items) }
 {
     match expr {
-        Expr::Name(_) | Expr::Number(_) | Expr::Text(_) => push_sign(out, expr),
+        Expr::Identifier(_) | Expr::Number(_) | Expr::Text(_) => push_sign(out, expr),
         _ => {
             push_mark(out, Mark::LeftParenthesis)?;
-            push_front(out, expr)?;
+            push_left(out, expr)?;
             push_sign(out, expr)?;
-            push_back(out, expr)?;
+            push_right(out, expr)?;
             push_mark(out, Mark::RightParenthesis)
         }
     }
 }
 
 /// Appends the token that tells what an expression is.
-#[tactic(auto, unfolding(crate::specs::Printed::expr_parts))]
+#[tactic(auto, unfolding(crate::specs::inner::PrintedParts::expr_parts))]
 fn push_sign(out: &mut Vec<u8>, expr: &Expr) -> Result<(), AllocError>
     ensures { OnOk result (Appends out.old.items (sign (expr_parts expr.now) ∷ []) out.new.items) }
 {
     match expr {
         Expr::Assign(_, operator, _) => push_mark(out, operator.mark()),
-        Expr::Conditional(..) => push_mark(out, Mark::Question),
+        Expr::Conditional { .. } => push_mark(out, Mark::Question),
         Expr::Binary(_, operator, _) => push_mark(out, operator.mark()),
         Expr::Cast(..) | Expr::Call(..) => push_mark(out, Mark::LeftParenthesis),
         Expr::PreIncrement(_) | Expr::PostIncrement(_) => push_mark(out, Mark::Increment),
@@ -112,21 +50,25 @@ fn push_sign(out: &mut Vec<u8>, expr: &Expr) -> Result<(), AllocError>
         Expr::Index(..) => push_mark(out, Mark::LeftBracket),
         Expr::Member(..) => push_mark(out, Mark::Dot),
         Expr::Arrow(..) => push_mark(out, Mark::Arrow),
-        Expr::Name(name) => push_name(out, name),
+        Expr::Identifier(name) => push_name(out, name),
         Expr::Number(number) => push_number(out, *number),
         Expr::Text(bytes) => push_text(out, bytes.as_slice()),
     }
 }
 
-/// Appends the operand in front of an expression's sign.
+/// Appends the operand to the left of an expression's sign.
 #[cycle(expression)]
-#[tactic(auto, using(crate::proofs::Writing::nothing), unfolding(crate::specs::Printed::expr_parts))]
-fn push_front(out: &mut Vec<u8>, expr: &Expr) -> Result<(), AllocError>
-    ensures { OnOk result (Appends out.old.items (front_step (expr_parts expr.now)) out.new.items) }
+#[tactic(auto, using(crate::proofs::AppendedLemmas::nothing), unfolding(crate::specs::inner::PrintedParts::expr_parts))]
+fn push_left(out: &mut Vec<u8>, expr: &Expr) -> Result<(), AllocError>
+    ensures { OnOk result (Appends out.old.items
+        (left_of_sign (expr_parts expr.now)) out.new.items) }
 {
     match expr {
         Expr::Assign(operand, ..)
-        | Expr::Conditional(operand, ..)
+        | Expr::Conditional {
+            condition: operand,
+            ..
+        }
         | Expr::Binary(operand, ..)
         | Expr::Index(operand, _)
         | Expr::Call(operand, _)
@@ -140,17 +82,18 @@ fn push_front(out: &mut Vec<u8>, expr: &Expr) -> Result<(), AllocError>
         | Expr::Unary(..)
         | Expr::SizeofExpr(_)
         | Expr::SizeofType(_)
-        | Expr::Name(_)
+        | Expr::Identifier(_)
         | Expr::Number(_)
         | Expr::Text(_) => Ok(()),
     }
 }
 
-/// Appends what stands behind an expression's sign.
+/// Appends what stands to the right of an expression's sign.
 #[cycle(expression)]
-#[tactic(auto, using(crate::proofs::Writing::nothing), unfolding(crate::specs::Printed::expr_parts))]
-fn push_back(out: &mut Vec<u8>, expr: &Expr) -> Result<(), AllocError>
-    ensures { OnOk result (Appends out.old.items (back_step (expr_parts expr.now)) out.new.items) }
+#[tactic(auto, using(crate::proofs::AppendedLemmas::nothing), unfolding(crate::specs::inner::PrintedParts::expr_parts))]
+fn push_right(out: &mut Vec<u8>, expr: &Expr) -> Result<(), AllocError>
+    ensures { OnOk result (Appends out.old.items
+        (right_of_sign (expr_parts expr.now)) out.new.items) }
 {
     match expr {
         Expr::Assign(_, _, operand)
@@ -159,19 +102,23 @@ fn push_back(out: &mut Vec<u8>, expr: &Expr) -> Result<(), AllocError>
         | Expr::PreDecrement(operand)
         | Expr::Unary(_, operand)
         | Expr::SizeofExpr(operand) => push_expr(out, operand.get()),
-        Expr::Conditional(_, yes, no) => {
-            push_expr(out, yes.get())?;
+        Expr::Conditional {
+            then_value,
+            else_value,
+            ..
+        } => {
+            push_expr(out, then_value.get())?;
             push_mark(out, Mark::Colon)?;
-            push_expr(out, no.get())
+            push_expr(out, else_value.get())
         }
         Expr::Cast(word, operand) => {
-            push_type_word(out, word)?;
+            push_type_word(out, word.get())?;
             push_mark(out, Mark::RightParenthesis)?;
             push_expr(out, operand.get())
         }
         Expr::SizeofType(word) => {
             push_mark(out, Mark::LeftParenthesis)?;
-            push_type_word(out, word)?;
+            push_type_word(out, word.get())?;
             push_mark(out, Mark::RightParenthesis)
         }
         Expr::Index(_, index) => {
@@ -185,7 +132,7 @@ fn push_back(out: &mut Vec<u8>, expr: &Expr) -> Result<(), AllocError>
         Expr::Member(_, name) | Expr::Arrow(_, name) => push_name(out, name),
         Expr::PostIncrement(_)
         | Expr::PostDecrement(_)
-        | Expr::Name(_)
+        | Expr::Identifier(_)
         | Expr::Number(_)
         | Expr::Text(_) => Ok(()),
     }
@@ -194,7 +141,8 @@ fn push_back(out: &mut Vec<u8>, expr: &Expr) -> Result<(), AllocError>
 /// Appends expressions with commas between.
 #[cycle(expression)]
 fn push_arguments(out: &mut Vec<u8>, arguments: &[Expr]) -> Result<(), AllocError>
-    ensures { OnOk result (Appends out.old.items (with_commas (map printed_expr arguments.now)) out.new.items) }
+    ensures { OnOk result (Appends out.old.items
+        (with_commas (map printed_expr arguments.now)) out.new.items) }
 {
     for (i, argument) in arguments.iter().enumerate() {
         push_separator(out, i)?;
@@ -235,8 +183,9 @@ pub(super) fn push_spec(out: &mut Vec<u8>, spec: &Spec) -> Result<(), AllocError
 
 /// Appends the members of a struct's body in braces.
 #[cycle(expression)]
-fn push_body(out: &mut Vec<u8>, members: &[Member]) -> Result<(), AllocError>
-    ensures { OnOk result (Appends out.old.items (body_kinds (Some (map printed_member members.now))) out.new.items) }
+fn push_body(out: &mut Vec<u8>, members: &[MemberDecl]) -> Result<(), AllocError>
+    ensures { OnOk result (Appends out.old.items
+        (body_kinds (Some (map printed_member members.now))) out.new.items) }
 {
     push_mark(out, Mark::LeftBrace)?;
     for member in members {
@@ -253,7 +202,8 @@ pub(super) fn push_declarators(
     out: &mut Vec<u8>,
     declarators: &[Declarator],
 ) -> Result<(), AllocError>
-    ensures { OnOk result (Appends out.old.items (with_commas (map printed_declarator declarators.now)) out.new.items) }
+    ensures { OnOk result (Appends out.old.items
+        (with_commas (map printed_declarator declarators.now)) out.new.items) }
 {
     for (i, declarator) in declarators.iter().enumerate() {
         push_separator(out, i)?;
@@ -275,7 +225,8 @@ fn push_stars(out: &mut Vec<u8>, stars: u32) -> Result<(), AllocError>
 /// Appends a declarator, in parentheses where it has stars or suffixes.
 #[cycle(expression)]
 pub(super) fn push_declarator(out: &mut Vec<u8>, declarator: &Declarator) -> Result<(), AllocError>
-    ensures { OnOk result (Appends out.old.items (printed_declarator declarator.now) out.new.items) }
+    ensures { OnOk result (Appends out.old.items
+        (printed_declarator declarator.now) out.new.items) }
 {
     if declarator.stars == 0 && declarator.suffixes.is_empty() {
         return push_direct(out, &declarator.direct);
@@ -301,7 +252,8 @@ fn push_direct(out: &mut Vec<u8>, direct: &Direct) -> Result<(), AllocError>
 /// Appends suffixes one after another.
 #[cycle(expression)]
 fn push_suffixes(out: &mut Vec<u8>, suffixes: &[Suffix]) -> Result<(), AllocError>
-    ensures { OnOk result (Appends out.old.items (joined (map printed_suffix suffixes.now)) out.new.items) }
+    ensures { OnOk result (Appends out.old.items
+        (joined (map printed_suffix suffixes.now)) out.new.items) }
 {
     for suffix in suffixes {
         push_suffix(out, suffix)?;
@@ -337,7 +289,7 @@ fn push_params(out: &mut Vec<u8>, params: &Params) -> Result<(), AllocError>
 {
     match params {
         Params::Nothing => Ok(()),
-        Params::Void => push_word(out, Keyword::Void),
+        Params::VoidAlone => push_word(out, Keyword::Void),
         Params::List(params) => push_param_list(out, params.as_slice()),
     }
 }
@@ -345,7 +297,8 @@ fn push_params(out: &mut Vec<u8>, params: &Params) -> Result<(), AllocError>
 /// Appends parameters with commas between.
 #[cycle(expression)]
 fn push_param_list(out: &mut Vec<u8>, params: &[Param]) -> Result<(), AllocError>
-    ensures { OnOk result (Appends out.old.items (with_commas (map printed_param params.now)) out.new.items) }
+    ensures { OnOk result (Appends out.old.items
+        (with_commas (map printed_param params.now)) out.new.items) }
 {
     for (i, param) in params.iter().enumerate() {
         push_separator(out, i)?;
@@ -373,7 +326,7 @@ fn push_param(out: &mut Vec<u8>, param: &Param) -> Result<(), AllocError>
 
 /// Appends a declarator without a name.
 #[cycle(expression)]
-fn push_abstract(out: &mut Vec<u8>, declarator: &Abstract) -> Result<(), AllocError>
+fn push_abstract(out: &mut Vec<u8>, declarator: &AbstractDeclarator) -> Result<(), AllocError>
     ensures { OnOk result (Appends out.old.items (printed_abstract declarator.now) out.new.items) }
 {
     push_stars(out, declarator.stars)?;

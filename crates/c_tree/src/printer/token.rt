@@ -2,8 +2,9 @@
 
 ghost use Rattle.std.specs.Prelude.{◌≡◌, ◌++◌, ◌∷◌, [], OnOk};
 ghost use Rattle.std.specs.List.{flat_map};
-ghost use Rattle.c_tree.specs.Printed.{separator};
-ghost use Rattle.c_tree.specs.Written.{escape_letter, piece_of, Appends};
+ghost use Rattle.c_tree.specs.Written.{escape_letter, piece_of};
+ghost use Rattle.c_tree.specs.inner.Appended.{Appends};
+ghost use Rattle.c_tree.specs.inner.PrintedParts.{separator};
 ghost use Rattle.c_tokens.specs.declared.token.Kind.{Kind};
 
 use c_tokens::{Keyword, Mark};
@@ -28,7 +29,7 @@ pub(super) fn push_mark(out: &mut Vec<u8>, mark: Mark) -> Result<(), AllocError>
 }
 
 /// Appends a comma, but in front of the first part.
-#[tactic(auto, using(crate::proofs::Writing::nothing))]
+#[tactic(auto, using(crate::proofs::AppendedLemmas::nothing))]
 pub(super) fn push_separator(out: &mut Vec<u8>, place: usize) -> Result<(), AllocError>
     ensures { OnOk result (Appends out.old.items (separator place) out.new.items) }
 {

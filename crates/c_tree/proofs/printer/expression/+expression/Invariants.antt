@@ -3,7 +3,7 @@ use Rattle.c_tokens.specs.declared.token.Kind.TheVariants.{Mark}
 use Rattle.c_tokens.specs.declared.token.Mark.TheVariants as mark
 use Rattle.c_tree.specs.Printed.{joined, with_commas, printed_expr, printed_member, printed_declarator, printed_suffix, printed_param}
 use Rattle.c_tree.specs.Written.{written}
-use Rattle.c_tree.proofs.Writing.{commas_from}
+use Rattle.c_tree.proofs.WrittenLemmas.{commas_from}
 use Rattle.c_tree.proofs.printer.expression.+expression.Given as goal
 
 -- In each loop, what is written and what is left to write are the whole list.

@@ -3,7 +3,7 @@ use Rattle.std.proofs.lemmas.Grind.{replicate_next}
 use Rattle.c_tokens.specs.declared.token.Kind.TheVariants.{Mark}
 use Rattle.c_tokens.specs.declared.token.Mark.TheVariants as mark
 use Rattle.c_tree.specs.Grammar.{star_kinds}
-use Rattle.c_tree.proofs.Writing.{then, nothing, given, at}
+use Rattle.c_tree.proofs.AppendedLemmas.{then, nothing, given, at}
 use Rattle.c_tree.proofs.printer.expression.push_stars.Goals as goal
 
 pub loop-init : goal.loop-init

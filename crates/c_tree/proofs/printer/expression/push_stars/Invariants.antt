@@ -1,5 +1,5 @@
 use Rattle.c_tree.specs.Grammar.{star_kinds}
-use Rattle.c_tree.specs.Written.{Appends}
+use Rattle.c_tree.specs.inner.Appended.{Appends}
 use Rattle.c_tree.proofs.printer.expression.push_stars.Given as goal
 
 abbrev pub invariant-loop : goal.invariant-loop

@@ -1,5 +1,6 @@
 use Rattle.c_tree.specs.PrintedStatements.{printed_init}
-use Rattle.c_tree.proofs.Writing.{then, done, one_more, commas-more, commas-end}
+use Rattle.c_tree.proofs.AppendedLemmas.{then, done, one_more}
+use Rattle.c_tree.proofs.WrittenLemmas.{commas-more, commas-end}
 use Rattle.c_tree.proofs.printer.statement.+initialiser.Goals as goal
 
 pub push_inits-loop-i-preserved : goal.push_inits-loop-i-preserved

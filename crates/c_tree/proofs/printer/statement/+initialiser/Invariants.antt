@@ -2,7 +2,7 @@ use Rattle.std.proofs.Common.{◌≡◌, ◌++◌, map, drop}
 use Rattle.c_tree.specs.Printed.{with_commas}
 use Rattle.c_tree.specs.PrintedStatements.{printed_init}
 use Rattle.c_tree.specs.Written.{written}
-use Rattle.c_tree.proofs.Writing.{commas_from}
+use Rattle.c_tree.proofs.WrittenLemmas.{commas_from}
 use Rattle.c_tree.proofs.printer.statement.+initialiser.Given as goal
 
 -- what is written and what is left to write are the whole list

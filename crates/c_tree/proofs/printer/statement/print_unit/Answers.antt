@@ -2,9 +2,10 @@ use Rattle.std.proofs.Common.{◌≡◌, arith}
 use Rattle.std.proofs.lemmas.Grind.{common_steps}
 use Rattle.c_tree.specs.PrintedStatements.{printed_item, printed_source}
 use Rattle.c_tree.specs.Written.{written}
-use Rattle.c_tree.proofs.Spelling.{prints-back}
-use Rattle.c_tree.proofs.Writing.{one_more, joined-more, joined-end}
-use Rattle.c_tree.proofs.WritingSteps.{writing}
+use Rattle.c_tree.proofs.round_trip.Texts.{prints-back}
+use Rattle.c_tree.proofs.AppendedLemmas.{one_more}
+use Rattle.c_tree.proofs.WrittenLemmas.{joined-more, joined-end}
+use Rattle.c_tree.proofs.AppendedLemmas.{writing}
 use Rattle.c_tree.proofs.printer.statement.print_unit.Goals as goal
 
 pub loop-item-preserved : goal.loop-item-preserved

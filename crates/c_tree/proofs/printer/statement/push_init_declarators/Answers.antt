@@ -1,5 +1,6 @@
 use Rattle.c_tree.specs.PrintedStatements.{printed_init_declarator}
-use Rattle.c_tree.proofs.Writing.{then, done, one_more, commas-more, commas-end}
+use Rattle.c_tree.proofs.AppendedLemmas.{then, done, one_more}
+use Rattle.c_tree.proofs.WrittenLemmas.{commas-more, commas-end}
 use Rattle.c_tree.proofs.printer.statement.push_init_declarators.Goals as goal
 
 pub loop-i-preserved : goal.loop-i-preserved

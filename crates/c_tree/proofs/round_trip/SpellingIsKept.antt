@@ -1,13 +1,22 @@
 -- Where each kind of some tokens can be spelled, so can each of what is printed.
-use Rattle.std.proofs.Common.{◌≡◌, ℕ, zero, suc, [], ◌∷◌, ◌++◌, refl, sym, subst}
+use Rattle.std.proofs.Common.{◌≡◌, ℕ, zero, suc, List, [], ◌∷◌, ◌++◌, refl, sym, subst}
 use Rattle.c_tokens.specs.declared.token.Keyword.{Keyword}
 use Rattle.c_tokens.specs.declared.token.Kind.{Kind}
 use Rattle.c_tokens.specs.declared.token.Kind.TheVariants.{Word, Mark}
 use Rattle.c_tokens.specs.declared.token.Mark.{Mark as MarkName}
 use Rattle.c_tokens.specs.declared.token.Mark.TheVariants as mark
+use Rattle.c_tokens.specs.Spell.{Spells}
 use Rattle.c_tokens.specs.Words.{keyword_text, mark_text}
 use Rattle.c_tree.specs.Marks.{Kinds, wrapped}
-use Rattle.c_tree.specs.Written.{AllSpelled}
+
+-- some text is a token of this kind
+abbrev pub CanBeSpelled : Kind → Type 0
+CanBeSpelled kind = (text : List ℕ) × Spells kind text
+
+-- and so is each of these
+abbrev pub AllSpelled : Kinds → Type 0
+AllSpelled [] = Unit {0}
+AllSpelled (t ∷ ts) = CanBeSpelled t × AllSpelled ts
 
 -- the second list can be spelled where the first can
 pub record Kept (ts us : Kinds) : Type 0 where

@@ -11,9 +11,10 @@ use Rattle.c_tree.specs.declared.statement.Unit.{Unit as Source}
 use Rattle.c_tree.specs.Marks.{Kinds, kinds_of}
 use Rattle.c_tree.specs.Statements.{SourceReads}
 use Rattle.c_tree.specs.PrintedStatements.{printed_source}
-use Rattle.c_tree.specs.Written.{escape_letter, piece_by, piece_of, text_of, written, CanBeSpelled, AllSpelled}
-use Rattle.c_tree.specs.Back.{PrintsBack}
-use Rattle.c_tree.proofs.ReprintStatements.{source-again}
+use Rattle.c_tree.specs.Written.{escape_letter, piece_by, piece_of, text_of, written}
+use Rattle.c_tree.proofs.round_trip.SpellingIsKept.{CanBeSpelled, AllSpelled}
+use Rattle.c_tree.specs.RoundTrip.{PrintsBack}
+use Rattle.c_tree.proofs.round_trip.Statements.{source-again}
 
 -- the first of a table of cases, or the rest of it
 choose : {G : Type 0} (a n c v : ℕ) (rest : Option ℕ) → (a ≡ n → c ≡ v → G) → (rest ≡ Some v → G)

@@ -1,0 +1,4 @@
+pub mod SpellingIsKept
+pub mod Expressions
+pub mod Statements
+pub mod Texts

@@ -1,0 +1,4 @@
+pub mod FoldEquations
+pub mod FoldStatementsEquations
+pub mod PrintedParts
+pub mod Appended
