@@ -65,9 +65,16 @@ pub record CanDefine (defs : List StructDef) (s : ℕ) (ms : List Member) : Type
   pub no_body : body_of defs s ≡ None
   pub members : IsTrue (are_members defs ms)
 
+-- what holds of each table that `declare` and `define` make
 pub record IsSound (defs : List StructDef) : Type 0 where
-  -- so each struct's members have units that aren't refused and name structs of the table
-  pub members_fit : (s : ℕ) (ms : List Member) → body_of defs s ≡ Some ms → IsTrue (are_members defs ms)
+  -- each member has units that aren't refused and names structs of the table
+  pub members_fit :
+    (s : ℕ) (ms : List Member)
+    → body_of defs s ≡ Some ms
+    → IsTrue (are_members defs ms)
   -- a struct with a body has units, though they may be too many
-  pub bodies_have_units : (s : ℕ) (ms : List Member) → body_of defs s ≡ Some ms → IsTrue (is_some (exact_units defs (ty.Struct s)))
+  pub bodies_have_units :
+    (s : ℕ) (ms : List Member)
+    → body_of defs s ≡ Some ms
+    → IsTrue (is_some (exact_units defs (ty.Struct s)))
   pub none_contains_itself : (s : ℕ) → Contains defs s s → ⊥

@@ -1,5 +1,5 @@
 -- Tables of structs, as lists: what a declaration and a body add, and where names stand.
-use Rattle.std.specs.Prelude.{ℕ, zero, suc, List, [], ◌∷◌, ◌++◌, Option, Some, None, slice_get}
+use Rattle.std.specs.Prelude.{ℕ, zero, suc, List, [], ◌∷◌, ◌++◌, Option, Some, None, unwrap_or, slice_get}
 use Rattle.std.specs.Option.{option_and_then}
 use Rattle.c_types.specs.declared.structs.Member.{Member}
 use Rattle.c_types.specs.declared.structs.StructDef.{StructDef}
@@ -8,6 +8,10 @@ use Rattle.tables.specs.Places.{place_of}
 -- the members of a struct that has a body
 abbrev pub body_of : List StructDef → ℕ → Option (List Member)
 body_of defs s = option_and_then (λ d. d.members) (slice_get defs s)
+
+-- its members, and none of a struct without a body
+abbrev pub members_of : List StructDef → ℕ → List Member
+members_of defs s = unwrap_or (body_of defs s) []
 
 -- one more struct, without a body
 abbrev pub with_tag : List StructDef → List ℕ → List StructDef

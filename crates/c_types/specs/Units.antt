@@ -5,8 +5,9 @@ use Rattle.c_types.specs.declared.error.LayoutRefusal.{LayoutRefusal}
 use Rattle.c_types.specs.declared.error.LayoutRefusal.TheVariants.{Incomplete, TooLarge}
 use Rattle.c_types.specs.declared.ty.Ty.{Ty, fold-Ty}
 use Rattle.c_types.specs.declared.ty.Ty.TheOpen.{Ty-F}
+use Rattle.c_types.specs.declared.structs.Member.{Member}
 use Rattle.c_types.specs.declared.structs.StructDef.{StructDef}
-use Rattle.c_types.specs.Structs.{body_of}
+use Rattle.c_types.specs.Structs.{body_of, members_of}
 
 abbrev pub most_units : ℕ
 most_units = 65536
@@ -32,10 +33,14 @@ abbrev pub total : List (Option ℕ) → Option ℕ
 total [] = Some 0
 total (o ∷ os) = option_and_then (λ m. option_map (λ n. m + n) (total os)) o
 
+-- the units of a body, where this says those of structs
+abbrev pub body_units : (ℕ → Option ℕ) → List Member → Option ℕ
+body_units of_struct ms = total (map (λ m. sized of_struct m.ty) ms)
+
 -- the units of a struct in which structs stand at most so deep
 unfoldable pub struct_units : ℕ → List StructDef → ℕ → Option ℕ
 struct_units zero defs s = None
-struct_units (suc depth) defs s = option_and_then (λ ms. total (map (λ m. sized (struct_units depth defs) m.ty) ms)) (body_of defs s)
+struct_units (suc depth) defs s = option_and_then (λ ms. body_units (struct_units depth defs) ms) (body_of defs s)
 
 -- no struct contains itself, so none stands deeper than there are structs
 unfoldable pub exact_units : List StructDef → Ty → Option ℕ
@@ -66,4 +71,5 @@ sum_of (Ok n ∷ rs) = added n (sum_of rs)
 
 -- the units of the members before
 unfoldable pub offset_of : List StructDef → ℕ → ℕ → Result ℕ LayoutRefusal
-offset_of defs s member = limited (sum_of (map (λ m. units_of defs m.ty) (take member (unwrap_or (body_of defs s) []))))
+offset_of defs s member =
+    limited (sum_of (map (λ m. units_of defs m.ty) (take member (members_of defs s))))

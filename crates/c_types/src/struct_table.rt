@@ -2,7 +2,7 @@
 
 ghost use Rattle.std.specs.Prelude.{◌≡◌, ◌<◌, ◌↔◌, [], None, length, slice_get, unwrap_or, IsTrue, IfOk, OnOk, OnErr};
 ghost use Rattle.std.specs.Option.{option_copied};
-ghost use Rattle.c_types.specs.Structs.{body_of, with_tag, with_body, struct_named, member_named};
+ghost use Rattle.c_types.specs.Structs.{members_of, with_tag, with_body, struct_named, member_named};
 ghost use Rattle.c_types.specs.Units.{units_of, offset_of, limited};
 ghost use Rattle.c_types.specs.Sound as spec;
 ghost use Rattle.c_types.specs.Sound.{CanDefine, IsSound};
@@ -228,7 +228,7 @@ impl StructTable {
     /// `TooLarge`, exactly where it is above 65,536. No earlier member is refused, since each
     /// member of a table has units.
     pub fn offset(&self, s: u32, member: u32) -> Result<u32, LayoutRefusal>
-        requires { member < length (unwrap_or (body_of self.now s) []) }
+        requires { member < length (members_of self.now s) }
         ensures { result ≡ offset_of self.now s member }
     {
         let Some(layout) = layout_at(self.layouts.as_slice(), s) else {

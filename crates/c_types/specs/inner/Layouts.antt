@@ -44,7 +44,8 @@ kept_or_none layouts m = unwrap_or (kept (stored_units layouts) m.ty) 0
 module _ (units_in : Member → ℕ) where
   abbrev pub layout_from : ℕ → List ℕ → List (List ℕ) → List Member → Layout
   layout_from units offsets names [] = record { units = units; offsets = offsets; names = names }
-  layout_from units offsets names (m ∷ ms) = layout_from (capped (units + units_in m)) (offsets ++ units ∷ []) (names ++ m.name ∷ []) ms
+  layout_from units offsets names (m ∷ ms) =
+      layout_from (capped (units + units_in m)) (offsets ++ units ∷ []) (names ++ m.name ∷ []) ms
 
 -- ---- what the definitions say
 
@@ -57,7 +58,11 @@ abbrev pub member_units : List StructDef → List Member → List ℕ
 member_units defs ms = map (λ m. unwrap_or (exact_units defs m.ty) 0) ms
 
 abbrev pub layout_of : List StructDef → List Member → Layout
-layout_of defs ms = record { units = capped (sum (member_units defs ms)); offsets = map capped (sums_before 0 (member_units defs ms)); names = map (λ m. m.name) ms }
+layout_of defs ms = record {
+  units = capped (sum (member_units defs ms));
+  offsets = map capped (sums_before 0 (member_units defs ms));
+  names = map (λ m. m.name) ms;
+}
 
 abbrev pub layout_in : List StructDef → StructDef → Option Layout
 layout_in defs d = option_map (layout_of defs) d.members
@@ -74,6 +79,12 @@ pub record IsLaidOut (defs : List StructDef) (tags : List (List ℕ)) (layouts :
   pub few_members : (s : ℕ) (ms : List Member) → body_of defs s ≡ Some ms → length ms < 2 ^ 32
   pub named : tags ≡ map tag_of defs
   pub stored : layouts ≡ map (layout_in defs) defs
-  pub members_fit : (s : ℕ) (ms : List Member) → body_of defs s ≡ Some ms → IsTrue (are_members defs ms)
+  pub members_fit :
+    (s : ℕ) (ms : List Member)
+    → body_of defs s ≡ Some ms
+    → IsTrue (are_members defs ms)
   -- no struct stands deeper than there are bodies
-  pub shallow : (s : ℕ) (ms : List Member) → body_of defs s ≡ Some ms → IsTrue (is_some (struct_units (bodies defs) defs s))
+  pub shallow :
+    (s : ℕ) (ms : List Member)
+    → body_of defs s ≡ Some ms
+    → IsTrue (is_some (struct_units (bodies defs) defs s))
