@@ -1,0 +1,3 @@
+pub mod Values
+pub mod Constant
+pub mod inner

@@ -1,0 +1,5 @@
+mod ArraysOfTypes
+mod PartsOfLayers
+mod RoundNoType
+mod Stars
+mod UnitsOfArrays
