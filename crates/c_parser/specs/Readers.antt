@@ -172,7 +172,7 @@ module _ (names : List (List ℕ)) (r : Readers) where
       block_items_from (suc n) found height = do
         ends ← eat mark.RightBrace
         if ends then pure (found, height)
-          else block_item >>= (λ i. block_items_from n (found ++ i.0 ∷ []) (max height i.1))
+            else block_item >>= (λ i. block_items_from n (found ++ i.0 ∷ []) (max height i.1))
 
       -- the items of a block, and the brace behind them
       unfoldable pub block_items : Parser (Tall (List BlockItem))
