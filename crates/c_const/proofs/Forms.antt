@@ -1,5 +1,5 @@
 -- What is computed of each form of an expression, a spec, a declarator and a type word.
-use Rattle.std.proofs.Common.{◌≡◌, ℕ, Bool, true, List, [], ◌∷◌, map, Option, Some, None, Ok, Err, ap}
+use Rattle.std.proofs.Common.{◌≡◌, ℕ, Bool, List, [], map, Some, None, Ok, Err, ap}
 use Rattle.std.specs.Option.{option_map}
 use Rattle.c_layers.specs.declared.layer.Layer.TheVariants as layer
 use Rattle.c_types.specs.declared.structs.StructDef.{StructDef}
@@ -21,7 +21,7 @@ use Rattle.c_tree.specs.declared.expression.TypeWord.{TypeWord, out-TypeWord}
 use Rattle.c_tree.specs.Fold.{Pass, expr_node}
 use Rattle.c_tree.specs.inner.FoldEquations as tree
 use Rattle.c_const.specs.declared.error.ConstRefusal.TheVariants.{NotConstant}
-use Rattle.c_const.specs.Constant.{Values, ◌>>=◌, bounded, each, expr_step, inside, layers_of, or_other, parameter, struct_type, suffix_step, type_named, type_word_step, value_steps}
+use Rattle.c_const.specs.Constant.{Values, ◌>>=◌, bounded, each, expr_step, inside, layers_of, or_other, parameter, struct_type, type_named, type_word_step, value_steps}
 use Rattle.c_const.specs.inner.Evaluated.{evaluated}
 
 module _ (structs : List StructDef) (names : List (List ℕ × Ty)) where

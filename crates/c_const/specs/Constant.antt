@@ -1,6 +1,6 @@
 -- The value of an integer constant expression: parts in source order, then their operator. Each part is told whether it
 -- is evaluated; a part that isn't must have the form of a constant, but may divide by 0.
-use Rattle.std.specs.Prelude.{◌≡◌, ℕ, zero, suc, Bool, true, false, not, ◌&&◌, if◌then◌else◌, List, [], ◌∷◌, ◌++◌, map, Option, Some, None, Result, Ok, Err, ℤ, pos, int_le, unsigned_abs}
+use Rattle.std.specs.Prelude.{◌≡◌, ℕ, zero, suc, Bool, true, false, not, ◌&&◌, if◌then◌else◌, List, [], ◌∷◌, ◌++◌, Option, Some, None, Result, Ok, Err, ℤ, pos, int_le, unsigned_abs}
 use Rattle.std.specs.Option.{option_map}
 use Rattle.tables.specs.Places.{first_named}
 use Rattle.c_layers.specs.declared.layer.Layer.{Layer}
@@ -15,7 +15,7 @@ use Rattle.c_types.specs.Kinds.{Outer}
 use Rattle.c_layers.specs.Shapes.{adjusted, shaped, whole_of}
 use Rattle.c_types.specs.Structs.{struct_named}
 use Rattle.c_types.specs.Units.{units_of}
-use Rattle.c_tree.specs.declared.expression.Direct.TheOpen.{AbstractDeclarator-F, Declarator-F, Direct-F, Expr-F, MemberDecl-F, Param-F, Params-F, Spec-F, Suffix-F, TypeWord-F}
+use Rattle.c_tree.specs.declared.expression.Direct.TheOpen.{Direct-F, Expr-F, Param-F, Params-F, Spec-F, Suffix-F, TypeWord-F}
 use Rattle.c_tree.specs.declared.expression.Expr.{Expr}
 use Rattle.c_tree.specs.declared.operator.BinaryOperator.{BinaryOperator}
 use Rattle.c_tree.specs.declared.operator.BinaryOperator.TheVariants as op
