@@ -3,6 +3,7 @@ use Rattle.std.specs.Prelude.{◌≡◌, ℕ, ◌≤◌, ◌⊎◌, List, ◌++�
 use Rattle.c_tree.specs.declared.statement.Item.{Item}
 use Rattle.c_tree.specs.declared.statement.Unit.{Unit as Source}
 use Rattle.c_tree.specs.Marks.{Kinds, greatest_depth}
+use Rattle.c_tree.specs.RoundTrip.{IsTextOf}
 use Rattle.c_tree.specs.Statements.{ItemReads, SourceReads, IsSyntaxRefusal}
 use Rattle.c_parser.specs.declared.error.ParseRefusal.{ParseRefusal}
 use Rattle.c_parser.specs.declared.error.ParseRefusal.TheVariants.{Memory}
@@ -14,6 +15,10 @@ ItemsAreToldApart = (names : List (List ℕ)) (g h : ℕ) (new more : List (List
 
 abbrev pub SourcesHaveOneTree : Type 0
 SourcesHaveOneTree = (ts : Kinds) (a b : Source) → SourceReads ts a → SourceReads ts b → a ≡ b
+
+-- one text is that of one tree at most
+abbrev pub TextsHaveOneTree : Type 0
+TextsHaveOneTree = (text : List ℕ) (a b : Source) → IsTextOf a text → IsTextOf b text → a ≡ b
 
 -- a refusal stands behind one number of items, and no source has the tokens
 abbrev pub RefusalsAreCertain : Type 0

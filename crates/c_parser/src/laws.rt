@@ -1,7 +1,8 @@
 //! What one text can be.
 
-ghost use Rattle.c_parser.specs.Laws.{ItemsAreToldApart, SourcesHaveOneTree, RefusalsAreCertain};
+ghost use Rattle.c_parser.specs.Laws.{ItemsAreToldApart, SourcesHaveOneTree, TextsHaveOneTree, RefusalsAreCertain};
 
+use c_tokens::texts_have_one_answer;
 use c_tree::declarators_declare_their_names;
 
 /// Whatever follows, tokens begin with one item at most.
@@ -16,6 +17,14 @@ pub fn sources_have_one_tree()
     ensures { SourcesHaveOneTree }
 {
     declarators_declare_their_names();
+}
+
+/// One text has one tree as a source.
+pub fn texts_have_one_tree()
+    ensures { TextsHaveOneTree }
+{
+    texts_have_one_answer();
+    sources_have_one_tree();
 }
 
 /// A refusal stands behind one number of items, and no source has the tokens.

@@ -12,5 +12,7 @@ mod statements;
 mod words;
 
 pub use error::ParseRefusal;
-pub use laws::{items_are_told_apart, refusals_are_certain, sources_have_one_tree};
+pub use laws::{
+    items_are_told_apart, refusals_are_certain, sources_have_one_tree, texts_have_one_tree,
+};
 pub use source::parse;

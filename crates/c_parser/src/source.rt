@@ -35,7 +35,7 @@ fn items_of(alloc: Global, tokens: &mut Cursor<'_>) -> Result<(Items<Item>, usiz
     requires { length tokens.old < 2 ^ 31 }
     ensures items { IfOk result (λ found. found.0 ≡ (reader.source_of tokens.old).0) }
     ensures left { IfOk result (λ found. found.1 ≡ length (reader.source_of tokens.old).1) }
-    ensures few { IfOk result (λ found. length found.0 < 2 ^ 31) }
+    ensures few { IfOk result (λ found. length found.0 ≤ length tokens.old) }
 {
     let mut names = Names::new(alloc);
     let mut found = Items::new(alloc);
@@ -53,13 +53,14 @@ fn items_of(alloc: Global, tokens: &mut Cursor<'_>) -> Result<(Items<Item>, usiz
     Ok((found, tokens.left()))
 }
 
-/// The source that the tokens are: its items, each with nodes at most 200 deep.
+/// The source that the tokens are: its items, each with nodes at most 200 deep, and at most as many as tokens.
 ///
 /// Where the tokens are no source, `Syntax` has the number of items behind which tokens are left that no item begins.
 /// `Memory` can come in place of every other answer.
 pub fn parse(alloc: Global, tokens: &Tokens) -> Result<Unit, ParseRefusal>
     requires { length tokens.now < 2 ^ 31 }
     ensures found { IfOk result (SourceReads (kinds_of tokens.now)) }
+    ensures count { IfOk result (λ source. length source.items ≤ length tokens.now) }
     ensures only { (source : Source) → SourceReads (kinds_of tokens.now) source → IsAnswer result (Ok source) }
     ensures refused { (count : ℕ) → result ≡ Err (Syntax count) → IsSyntaxRefusal (kinds_of tokens.now) count }
     ensures refuses { (count : ℕ) → IsSyntaxRefusal (kinds_of tokens.now) count → IsAnswer result (Err (Syntax count)) }
