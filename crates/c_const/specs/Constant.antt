@@ -12,7 +12,7 @@ use Rattle.c_types.specs.declared.ty.Ty.{Ty, out-Ty}
 use Rattle.c_types.specs.declared.ty.Ty.TheOpen.{Ty-F}
 use Rattle.c_types.specs.declared.ty.Ty.TheVariants as ty
 use Rattle.c_types.specs.Kinds.{Outer}
-use Rattle.c_layers.specs.Shapes.{adjusted, shaped, whole_of}
+use Rattle.c_layers.specs.Shapes.{adjusted, shaped, stars_of, whole_of}
 use Rattle.c_types.specs.Structs.{struct_named}
 use Rattle.c_types.specs.Units.{units_of}
 use Rattle.c_tree.specs.declared.expression.Direct.TheOpen.{Direct-F, Expr-F, Param-F, Params-F, Spec-F, Suffix-F, TypeWord-F}
@@ -55,10 +55,6 @@ each (p ∷ ps) = p >>= (λ x. each ps >>= (λ xs. Ok (x ∷ xs)))
 abbrev pub inside : Option (Answer (List Layer)) → Answer (List Layer)
 inside None = Ok []
 inside (Some ls) = ls
-
-abbrev pub stars_of : ℕ → List Layer
-stars_of zero = []
-stars_of (suc n) = layer.Pointers (suc n) ∷ []
 
 abbrev pub layers_of : ℕ → Answer (List Layer) → List (Answer Layer) → Answer (List Layer)
 layers_of stars within suffixes = do

@@ -8,11 +8,9 @@ ghost use Rattle.c_const.specs.inner.Evaluated.{evaluated};
 ghost use Rattle.c_tree.specs.Fold.{expr_node};
 
 use crate::error::ConstRefusal;
-use crate::type_words::{
-    TypeTable, bound, converted, joined, parameter_of, size_of, spec_type, word_type,
-};
+use crate::type_words::{TypeTable, bound, converted, parameter_of, size_of, spec_type, word_type};
 use crate::values::{complemented, computed, negated, truth};
-use c_layers::{Layer, Layers, Parameter, Parameters};
+use c_layers::{Layer, Layers, Parameter, Parameters, joined};
 use c_tree::{
     AbstractDeclarator, BinaryOperator, Declarator, Direct, Expr, Param, Params, Suffix, TypeWord,
     UnaryOperator,

@@ -1,6 +1,6 @@
 //! The types that specs and layers make, and what is asked of a value or of a type.
 
-ghost use Rattle.std.specs.Prelude.{◌≡◌, ◌++◌, IfOk};
+ghost use Rattle.std.specs.Prelude.{◌≡◌, IfOk};
 ghost use Rattle.std.specs.Option.{option_copied};
 ghost use Rattle.c_const.specs.Constant as spec;
 ghost use Rattle.c_const.specs.Constant.{Gives, or_other};
@@ -15,7 +15,7 @@ use c_layers::{Layer, Layers, Parameter, shaped};
 use c_tree::Spec;
 use c_types::{Name, StructTable, Ty, copy_type};
 use sqlite_items::Items;
-use std::alloc::{AllocError, Global};
+use std::alloc::Global;
 
 /// Type names, each with its type. The first of a name counts.
 pub type TypeTable = Items<(Name, Ty)>;
@@ -95,18 +95,6 @@ pub(crate) fn parameter_of(
         Some(ty) => Ok(Parameter { name: None, ty }),
         None => Err(ConstRefusal::NotConstant),
     }
-}
-
-/// The layers of a declarator: what stands inside, then its suffixes, then its stars.
-pub(crate) fn joined(inside: Layers, suffixes: Layers, stars: u32) -> Result<Layers, AllocError>
-    ensures { IfOk result (λ all. all ≡ inside ++ suffixes ++ spec.stars_of stars) }
-{
-    let mut all = inside;
-    all.append(suffixes)?;
-    if stars > 0 {
-        all.push(Layer::Pointers(stars))?;
-    }
-    Ok(all)
 }
 
 /// The units of a type, where they aren't refused.

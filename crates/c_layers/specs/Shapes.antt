@@ -60,6 +60,11 @@ module _ (defs : List StructDef) where
   results_fit base (layer.Function params ∷ ls) = is_result (shaped base ls) && results_fit base ls
   results_fit base (l ∷ ls) = results_fit base ls
 
+-- the layer of so many stars, if there are any
+abbrev pub stars_of : ℕ → List Layer
+stars_of zero = []
+stars_of (suc n) = layer.Pointers (suc n) ∷ []
+
 abbrev pub whole_of : Shape → Option Ty
 whole_of (shape.Whole t) = Some t
 whole_of _ = None

@@ -1,6 +1,6 @@
 //! Declarators as layers, and what they make of a type.
 
-ghost use Rattle.std.specs.Prelude.{◌≡◌, IfOk};
+ghost use Rattle.std.specs.Prelude.{◌≡◌, ◌++◌, IfOk};
 ghost use Rattle.std.specs.Option.{option_copied};
 ghost use Rattle.c_layers.specs.Shapes as spec;
 
@@ -102,4 +102,20 @@ pub fn limited(ty: Ty) -> Shape
         return Shape::Broken(is_function(&ty));
     }
     Shape::Whole(ty)
+}
+
+/// The layers of a declarator: what stands inside, then its suffixes, then its stars.
+///
+/// # Errors
+///
+/// `AllocError`, where no memory is left.
+pub fn joined(inside: Layers, suffixes: Layers, stars: u32) -> Result<Layers, AllocError>
+    ensures { IfOk result (λ all. all ≡ inside ++ suffixes ++ spec.stars_of stars) }
+{
+    let mut all = inside;
+    all.append(suffixes)?;
+    if stars > 0 {
+        all.push(Layer::Pointers(stars))?;
+    }
+    Ok(all)
 }

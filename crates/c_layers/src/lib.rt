@@ -5,5 +5,5 @@ mod layer;
 mod shaping;
 mod stage;
 
-pub use layer::{Layer, Layers, Parameter, Parameters, Shape, limited};
+pub use layer::{Layer, Layers, Parameter, Parameters, Shape, joined, limited};
 pub use shaping::{CheckedShape, checked_shape, shaped};

@@ -15,7 +15,11 @@ mod theorems;
 mod ty;
 
 pub use error::LayoutRefusal;
-pub use kinds::{decay, is_function, is_integer, is_scalar, is_void};
+pub use kinds::{
+    bound_of, decay, element_of, function_of, is_array, is_char, is_function, is_integer,
+    is_object_pointer, is_pointer, is_scalar, is_struct, is_void, is_void_pointer, struct_of,
+    target_of,
+};
 pub use name::{Name, copy_name};
 pub use part_count::parts;
 pub use sameness::{same, same_functions};

@@ -3,12 +3,21 @@
 use super::name::Name;
 use super::ty::Ty;
 use sqlite_items::Items;
+use tables::Named;
 
 /// A member of a struct.
 #[derive(Debug, Drop)]
 pub struct Member {
     pub name: Name,
     pub ty: Ty,
+}
+
+impl Named for Member {
+    ghost name_of = { λ member. member.name };
+
+    fn name(&self) -> &[u8] {
+        self.name.bytes()
+    }
 }
 
 /// Members in order.

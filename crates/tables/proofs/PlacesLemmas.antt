@@ -1,7 +1,7 @@
 -- Where the things of a name stand in a list that grows.
-use Rattle.std.proofs.Common.{◌≡◌, ℕ, suc, ◌<◌, Bool, true, false, cond, if◌then◌else◌, List, [], ◌∷◌, ◌++◌, length, Option, Some, None, IfSome, is_some, refl, ap, ◌∙◌, subst, arith}
+use Rattle.std.proofs.Common.{◌≡◌, ℕ, zero, suc, ◌<◌, Bool, true, false, cond, if◌then◌else◌, List, [], ◌∷◌, ◌++◌, length, Option, Some, None, IfSome, is_some, refl, ap, ◌∙◌, subst, arith}
 use Rattle.std.specs.Option.{option_map, option_and_then}
-use Rattle.std.specs.List.{slice_get}
+use Rattle.std.specs.List.{slice_get, slice_set}
 use Rattle.std.specs.Str.{bytes_eq}
 use Rattle.std.proofs.lemmas.Slice.Eq.{bytes_eq-Decides}
 use Rattle.tables.specs.Places.{place_of, first_named}
@@ -78,3 +78,9 @@ module _ {A : Type 0} (name_of : A → List ℕ) where
   pub place_of_added : (xs : List A) (a : A) (ys : List A) (key x : List ℕ) (n : ℕ) (o : Option ℕ) → key ≡ name_of a → n ≡ length xs → o ≡ place_of name_of xs x
       → is_some (place_of name_of xs (name_of a)) ≡ false → ys ≡ xs ++ a ∷ [] → cond (bytes_eq key x) (Some n) o ≡ place_of name_of ys x
   place_of_added xs a ys key x n o is_name is_end found new is = cc (place_of_new xs a x new)
+
+  -- another thing of the same name stands where the first did
+  pub place_of_replaced : (xs : List A) (n : ℕ) (b : A) (x : List ℕ) → ((a : A) → slice_get xs n ≡ Some a → name_of b ≡ name_of a) → place_of name_of (slice_set xs n b) x ≡ place_of name_of xs x
+  place_of_replaced [] n b x same = refl
+  place_of_replaced (a ∷ xs) zero b x same = ap (λ y. if bytes_eq y x then Some 0 else option_map suc (place_of name_of xs x)) (same a refl)
+  place_of_replaced (a ∷ xs) (suc n) b x same = ap (λ o. if bytes_eq (name_of a) x then Some 0 else option_map suc o) (place_of_replaced xs n b x same)

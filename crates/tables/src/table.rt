@@ -1,4 +1,4 @@
-ghost use Rattle.std.specs.Prelude.{◌≡◌, ◌<◌, ◌↔◌, [], ◌∷◌, ◌++◌, List, ℕ, IsTrue, IfSome, OnOk, OnErr, length, slice_get};
+ghost use Rattle.std.specs.Prelude.{◌≡◌, ◌<◌, ◌↔◌, [], ◌∷◌, ◌++◌, List, ℕ, IsTrue, IfSome, OnOk, OnErr, Some, length, slice_get, slice_set};
 ghost use Rattle.std.specs.Option.{option_copied};
 ghost use Rattle.tables.specs.Places.{place_of, first_named};
 
@@ -121,5 +121,21 @@ impl<T: Named + Drop> Table<T> {
             return Err(full.into());
         }
         Ok(())
+    }
+
+    /// Puts another thing of the same name in the place of one.
+    pub fn replace(&mut self, place: usize, item: T)
+        requires within { place < length self.old }
+        requires name { (earlier : T) → slice_get self.old place ≡ Some earlier → T.name_of item ≡ T.name_of earlier }
+        ensures { self.new ≡ slice_set self.old place item }
+    {
+        self.items.set(place, item);
+    }
+
+    /// All of them, without their names' places.
+    pub fn into_items(self) -> Items<T>
+        ensures { result ≡ self }
+    {
+        self.items
     }
 }

@@ -1,0 +1,542 @@
+//! The walk of expressions and of what stands in them. The trees contain one another, so the
+//! functions call one another: an expression has type words, whose bounds are expressions.
+
+ghost use Rattle.std.specs.Prelude.{◌≡◌, map, []};
+ghost use Rattle.c_expr_typing.specs.Trees as tree;
+ghost use Rattle.c_expr_typing.specs.Trees.{walked};
+ghost use Rattle.c_scope.specs.Walk.{each_pair, maybe, within};
+ghost use Rattle.c_scope.specs.Walks.{Walks};
+ghost use Rattle.c_tree.specs.Fold.{expr_node};
+ghost use Rattle.std.specs.Option.{option_map};
+
+use crate::layered::{LayeredDeclarator, abstract_layered, layered};
+use crate::parts::{
+    body_tag, constant_bound, named_param, one_member, struct_spec, type_name, unnamed_param,
+    whole_word,
+};
+use c_layers::{Layer, Layers, Parameter, Parameters};
+use c_rules::{
+    Place, arrow, assignment, binary, call, cast, conditional, identifier, index, member, number,
+    post_decrement, post_increment, pre_decrement, pre_increment, size_of_type, size_of_value,
+    text, unary,
+};
+use c_scope::{Failure, Rule, World, define, test};
+use c_tree::{
+    AbstractDeclarator, Declarator, Direct, Expr, MemberDecl, Param, Params, Spec, Suffix, TypeWord,
+};
+use c_typed::{
+    Declared, TypedAbstractDeclarator, TypedDirect, TypedExpr, TypedMemberDecl, TypedParam,
+    TypedParams, TypedSpec, TypedSuffix, TypedTypeWord,
+};
+use c_types::{Member, Name, Ty, copy_name};
+use sqlite_items::{Boxed, Items};
+use std::alloc::Global;
+use tables::Table;
+
+/// The most parameters of a function.
+const MOST_PARAMETERS: usize = 8;
+
+/// The typed form of an expression.
+///
+/// # Errors
+///
+/// `Broken`, at the first rule that is broken. `Memory`, where no memory is left.
+#[cycle(walk)]
+#[tactic(auto, using(crate::proofs::Forms::expressions))]
+pub fn expression(
+    alloc: Global,
+    world: &mut World,
+    expr: &Expr,
+    place: Place,
+) -> Result<TypedExpr, Failure>
+    ensures { Walks (walked.expr expr.now place world.old) result world.new }
+{
+    expression_node(alloc, world, expr, place)
+}
+
+/// Its parts, and then its rules.
+#[cycle(walk)]
+fn expression_node(
+    alloc: Global,
+    world: &mut World,
+    expr: &Expr,
+    place: Place,
+) -> Result<TypedExpr, Failure>
+    ensures { Walks (tree.expr_step (expr_node walked expr.now) place world.old) result world.new }
+{
+    match expr {
+        Expr::Assign(a, operator, b) => {
+            let (a, b) = operands(alloc, world, a.get(), b.get())?;
+            assignment(alloc, world, a, *operator, b)
+        }
+        Expr::Conditional {
+            condition,
+            then_value,
+            else_value,
+        } => {
+            let (c, a, b) = arms(
+                alloc,
+                world,
+                condition.get(),
+                then_value.get(),
+                else_value.get(),
+            )?;
+            conditional(alloc, world, c, a, b)
+        }
+        Expr::Binary(a, operator, b) => {
+            let (a, b) = operands(alloc, world, a.get(), b.get())?;
+            binary(alloc, world, a, *operator, b)
+        }
+        Expr::Cast(word, a) => {
+            let (word, a) = cast_parts(alloc, world, word.get(), a.get())?;
+            cast(alloc, world, word, a)
+        }
+        Expr::PreIncrement(a) => {
+            let a = expression(alloc, world, a.get(), Place::Value)?;
+            pre_increment(alloc, world, a)
+        }
+        Expr::PreDecrement(a) => {
+            let a = expression(alloc, world, a.get(), Place::Value)?;
+            pre_decrement(alloc, world, a)
+        }
+        Expr::Unary(operator, a) => {
+            let a = expression(alloc, world, a.get(), Place::Value)?;
+            unary(alloc, world, *operator, a)
+        }
+        Expr::SizeofExpr(a) => {
+            let a = expression(alloc, world, a.get(), Place::Value)?;
+            size_of_value(alloc, world, a)
+        }
+        Expr::SizeofType(word) => {
+            let word = type_word(alloc, world, word.get())?;
+            size_of_type(alloc, world, word)
+        }
+        Expr::Index(a, i) => {
+            let (a, i) = operands(alloc, world, a.get(), i.get())?;
+            index(alloc, world, a, i)
+        }
+        Expr::Call(callee, given) => {
+            let (callee, given) = call_parts(alloc, world, callee.get(), given.as_slice())?;
+            call(alloc, world, callee, given)
+        }
+        Expr::Member(a, name) => {
+            let a = expression(alloc, world, a.get(), Place::Value)?;
+            member(alloc, world, a, name)
+        }
+        Expr::Arrow(a, name) => {
+            let a = expression(alloc, world, a.get(), Place::Value)?;
+            arrow(alloc, world, a, name)
+        }
+        Expr::PostIncrement(a) => {
+            let a = expression(alloc, world, a.get(), Place::Value)?;
+            post_increment(alloc, world, a)
+        }
+        Expr::PostDecrement(a) => {
+            let a = expression(alloc, world, a.get(), Place::Value)?;
+            post_decrement(alloc, world, a)
+        }
+        Expr::Identifier(name) => identifier(alloc, world, name, place),
+        Expr::Number(value) => number(world, *value),
+        Expr::Text(bytes) => text(alloc, world, bytes.as_slice()),
+    }
+}
+
+/// Two operands.
+#[cycle(walk)]
+fn operands(
+    alloc: Global,
+    world: &mut World,
+    a: &Expr,
+    b: &Expr,
+) -> Result<(TypedExpr, TypedExpr), Failure>
+    ensures { Walks (tree.operands (walked.expr a.now) (walked.expr b.now) world.old) result world.new }
+{
+    let x = expression(alloc, world, a, Place::Value)?;
+    let y = expression(alloc, world, b, Place::Value)?;
+    Ok((x, y))
+}
+
+/// A test and its arms.
+#[cycle(walk)]
+fn arms(
+    alloc: Global,
+    world: &mut World,
+    c: &Expr,
+    a: &Expr,
+    b: &Expr,
+) -> Result<(TypedExpr, TypedExpr, TypedExpr), Failure>
+    ensures { Walks (tree.arms (walked.expr c.now) (walked.expr a.now) (walked.expr b.now) world.old)
+        result world.new }
+{
+    let c = expression(alloc, world, c, Place::Value)?;
+    let (x, y) = operands(alloc, world, a, b)?;
+    Ok((c, x, y))
+}
+
+/// A type word and what is cast to it.
+#[cycle(walk)]
+fn cast_parts(
+    alloc: Global,
+    world: &mut World,
+    word: &TypeWord,
+    a: &Expr,
+) -> Result<(TypedTypeWord, TypedExpr), Failure>
+    ensures { Walks (tree.cast_parts (walked.type_word word.now) (walked.expr a.now) world.old)
+        result world.new }
+{
+    let word = type_word(alloc, world, word)?;
+    let a = expression(alloc, world, a, Place::Value)?;
+    Ok((word, a))
+}
+
+/// What is called, and the arguments.
+#[cycle(walk)]
+fn call_parts(
+    alloc: Global,
+    world: &mut World,
+    callee: &Expr,
+    given: &[Expr],
+) -> Result<(TypedExpr, Items<TypedExpr>), Failure>
+    ensures { Walks (tree.call_parts (walked.expr callee.now) (map walked.expr given.now) world.old)
+        result world.new }
+{
+    let callee = expression(alloc, world, callee, Place::Callee)?;
+    let given = arguments(alloc, world, given)?;
+    Ok((callee, given))
+}
+
+/// The arguments of a call.
+#[cycle(walk)]
+#[tactic(auto, using(Rattle.c_scope.specs.inner.Lists.lists))]
+fn arguments(
+    alloc: Global,
+    world: &mut World,
+    all: &[Expr],
+) -> Result<Items<TypedExpr>, Failure>
+    ensures { Walks (tree.arguments (map walked.expr all.now) world.old) result world.new }
+{
+    let mut found = Items::new(alloc);
+    for argument in all {
+        found.push(expression(alloc, world, argument, Place::Value)?)?;
+    }
+    Ok(found)
+}
+
+/// A type word.
+#[cycle(walk)]
+#[tactic(auto, using(crate::proofs::Forms::type_words))]
+fn type_word(alloc: Global, world: &mut World, word: &TypeWord) -> Result<TypedTypeWord, Failure>
+    ensures { Walks (walked.type_word word.now world.old) result world.new }
+{
+    let base = spec(alloc, world, &word.spec, false)?;
+    let declarator = abstract_declarator(alloc, world, &word.declarator)?;
+    whole_word(alloc, world, base, declarator)
+}
+
+/// A declarator without a name, and its layers.
+#[cycle(walk)]
+#[tactic(auto, using(crate::proofs::Forms::declarators))]
+fn abstract_declarator(
+    alloc: Global,
+    world: &mut World,
+    declarator: &AbstractDeclarator,
+) -> Result<(TypedAbstractDeclarator, Layers), Failure>
+    ensures { Walks (walked.abstract declarator.now world.old) result world.new }
+{
+    let inside = bracketed(alloc, world, &declarator.bracketed)?;
+    let suffixes = suffixes(alloc, world, declarator.suffixes.as_slice())?;
+    Ok(abstract_layered(alloc, declarator.stars, inside, suffixes)?)
+}
+
+/// The declarator inside, where there is one.
+#[cycle(walk)]
+fn bracketed(
+    alloc: Global,
+    world: &mut World,
+    inside: &Option<Boxed<AbstractDeclarator>>,
+) -> Result<Option<(TypedAbstractDeclarator, Layers)>, Failure>
+    ensures { Walks (maybe (option_map walked.abstract inside.now) world.old) result world.new }
+{
+    match inside {
+        None => Ok(None),
+        Some(inside) => Ok(Some(abstract_declarator(alloc, world, inside.get())?)),
+    }
+}
+
+/// The typed form of a declarator, with its name and its layers.
+///
+/// # Errors
+///
+/// `Broken`, at the first rule that is broken. `Memory`, where no memory is left.
+#[cycle(walk)]
+#[tactic(auto, using(crate::proofs::Forms::declarators))]
+pub fn declarator(
+    alloc: Global,
+    world: &mut World,
+    declarator: &Declarator,
+) -> Result<LayeredDeclarator, Failure>
+    ensures { Walks (walked.declarator declarator.now world.old) result world.new }
+{
+    let inside = direct(alloc, world, &declarator.direct)?;
+    let suffixes = suffixes(alloc, world, declarator.suffixes.as_slice())?;
+    Ok(layered(declarator.stars, inside, suffixes)?)
+}
+
+/// What a declarator's stars and suffixes stand round.
+#[cycle(walk)]
+#[tactic(auto, using(crate::proofs::Forms::directs))]
+fn direct(
+    alloc: Global,
+    world: &mut World,
+    inside: &Direct,
+) -> Result<(TypedDirect, Name, Layers), Failure>
+    ensures { Walks (walked.direct inside.now world.old) result world.new }
+{
+    match inside {
+        Direct::Name(name) => {
+            let declared = copy_name(alloc, name)?;
+            Ok((
+                TypedDirect::Name(copy_name(alloc, name)?),
+                declared,
+                Items::new(alloc),
+            ))
+        }
+        Direct::Bracketed(inside) => {
+            let LayeredDeclarator { tree, name, layers } = declarator(alloc, world, inside.get())?;
+            Ok((TypedDirect::Bracketed(Boxed::new(alloc, tree)?), name, layers))
+        }
+    }
+}
+
+/// Suffixes, and their layers.
+#[cycle(walk)]
+#[tactic(auto, using(Rattle.c_scope.specs.inner.Lists.lists))]
+fn suffixes(
+    alloc: Global,
+    world: &mut World,
+    all: &[Suffix],
+) -> Result<(Items<TypedSuffix>, Layers), Failure>
+    ensures { Walks (each_pair (map walked.suffix all.now) world.old) result world.new }
+{
+    let mut found = Items::new(alloc);
+    let mut layers = Items::new(alloc);
+    for one in all {
+        let (suffix, layer) = suffix(alloc, world, one)?;
+        found.push(suffix)?;
+        layers.push(layer)?;
+    }
+    Ok((found, layers))
+}
+
+/// A suffix, and its layer.
+#[cycle(walk)]
+#[tactic(auto, using(crate::proofs::Forms::suffixes))]
+fn suffix(
+    alloc: Global,
+    world: &mut World,
+    suffix: &Suffix,
+) -> Result<(TypedSuffix, Layer), Failure>
+    ensures { Walks (walked.suffix suffix.now world.old) result world.new }
+{
+    match suffix {
+        Suffix::Array(value) => match value {
+            None => Ok((TypedSuffix::Array(None), Layer::Array(None))),
+            Some(value) => bounded(alloc, world, value),
+        },
+        Suffix::Function(params) => {
+            let (params, layer) = parameters(alloc, world, params)?;
+            Ok((TypedSuffix::Function(params), Layer::Function(layer)))
+        }
+    }
+}
+
+/// An array with this bound.
+#[cycle(walk)]
+#[tactic(auto, unfolding(Rattle.c_rules.specs.Operators.constant_of))]
+fn bounded(
+    alloc: Global,
+    world: &mut World,
+    value: &Expr,
+) -> Result<(TypedSuffix, Layer), Failure>
+    ensures { Walks (tree.bounded (walked.expr value.now) world.old) result world.new }
+{
+    let value = expression(alloc, world, value, Place::Value)?;
+    let bound = constant_bound(world, value.constant)?;
+    Ok((TypedSuffix::Array(Some(value)), Layer::Array(Some(bound))))
+}
+
+/// The parameters of a function.
+#[cycle(walk)]
+#[tactic(auto, using(crate::proofs::Forms::parameters))]
+fn parameters(
+    alloc: Global,
+    world: &mut World,
+    params: &Params,
+) -> Result<(TypedParams, Parameters), Failure>
+    ensures { Walks (walked.params params.now world.old) result world.new }
+{
+    match params {
+        Params::Nothing => Ok((TypedParams::Nothing, Items::new(alloc))),
+        Params::VoidAlone => Ok((TypedParams::VoidAlone, Items::new(alloc))),
+        Params::List(all) => {
+            world.enter()?;
+            let (found, params) = parameter_list(alloc, world, all.as_slice())?;
+            world.leave()?;
+            test(Rule::Form, params.len() <= MOST_PARAMETERS)?;
+            Ok((TypedParams::List(found), params))
+        }
+    }
+}
+
+/// At least one parameter.
+#[cycle(walk)]
+#[tactic(auto, using(Rattle.c_scope.specs.inner.Lists.lists))]
+fn parameter_list(
+    alloc: Global,
+    world: &mut World,
+    all: &[Param],
+) -> Result<(Items<TypedParam>, Parameters), Failure>
+    ensures { Walks (each_pair (map walked.param all.now) world.old) result world.new }
+{
+    let mut found = Items::new(alloc);
+    let mut params = Items::new(alloc);
+    for one in all {
+        let (typed, param) = param(alloc, world, one)?;
+        found.push(typed)?;
+        params.push(param)?;
+    }
+    Ok((found, params))
+}
+
+/// One parameter.
+#[cycle(walk)]
+#[tactic(auto, using(crate::proofs::Forms::parameters))]
+fn param(
+    alloc: Global,
+    world: &mut World,
+    param: &Param,
+) -> Result<(TypedParam, Parameter), Failure>
+    ensures { Walks (walked.param param.now world.old) result world.new }
+{
+    match param {
+        Param::Named(base, inside) => {
+            let base = spec(alloc, world, base, false)?;
+            let inside = declarator(alloc, world, inside)?;
+            named_param(alloc, world, base, inside)
+        }
+        Param::Unnamed(base, inside) => {
+            let base = spec(alloc, world, base, false)?;
+            let inside = abstract_declarator(alloc, world, inside)?;
+            unnamed_param(alloc, world, base, inside)
+        }
+    }
+}
+
+/// The typed form of a spec, and its type. A struct's body stands only where `bodies` says so.
+///
+/// # Errors
+///
+/// `Broken`, at the first rule that is broken. `Memory`, where no memory is left.
+#[cycle(walk)]
+#[tactic(auto, using(crate::proofs::Forms::specs))]
+pub fn spec(
+    alloc: Global,
+    world: &mut World,
+    spec: &Spec,
+    bodies: bool,
+) -> Result<(TypedSpec, Ty), Failure>
+    ensures { Walks (walked.spec spec.now bodies world.old) result world.new }
+{
+    match spec {
+        Spec::Int => Ok((TypedSpec::Int, Ty::Int)),
+        Spec::Char => Ok((TypedSpec::Char, Ty::Char)),
+        Spec::Void => Ok((TypedSpec::Void, Ty::Void)),
+        Spec::TypeName(name) => type_name(alloc, world, name),
+        Spec::Struct(name, body) => match body {
+            None => struct_spec(alloc, world, name),
+            Some(body) => struct_body(alloc, world, name, body.as_slice(), bodies),
+        },
+    }
+}
+
+/// A struct with its body.
+#[cycle(walk)]
+fn struct_body(
+    alloc: Global,
+    world: &mut World,
+    name: &Name,
+    all: &[MemberDecl],
+    bodies: bool,
+) -> Result<(TypedSpec, Ty), Failure>
+    ensures { Walks (tree.struct_body name.now (map walked.member all.now) bodies world.old)
+        result world.new }
+{
+    let number = body_tag(alloc, world, name, bodies)?;
+    let (body, found) = members(alloc, world, all)?;
+    define(world, number, found.into_items())?;
+    Ok((
+        TypedSpec::Struct(copy_name(alloc, name)?, Some(body)),
+        Ty::Struct(number),
+    ))
+}
+
+/// The lines of a struct's body.
+#[cycle(walk)]
+#[tactic(auto, using(crate::proofs::MemberLists::member_lists))]
+fn members(
+    alloc: Global,
+    world: &mut World,
+    all: &[MemberDecl],
+) -> Result<(Items<TypedMemberDecl>, Table<Member>), Failure>
+    ensures { Walks (tree.members (map walked.member all.now) [] world.old) result world.new }
+{
+    let mut found = Items::new(alloc);
+    let mut members = Table::new(alloc);
+    for line in all {
+        let (decl, behind) = member_decl(alloc, world, line, members)?;
+        members = behind;
+        found.push(decl)?;
+    }
+    Ok((found, members))
+}
+
+/// One line of a struct's body, behind these members.
+#[cycle(walk)]
+#[tactic(auto, using(crate::proofs::Forms::members))]
+fn member_decl(
+    alloc: Global,
+    world: &mut World,
+    line: &MemberDecl,
+    before: Table<Member>,
+) -> Result<(TypedMemberDecl, Table<Member>), Failure>
+    ensures { Walks (walked.member line.now before world.old) result world.new }
+{
+    let (spec, base) = spec(alloc, world, &line.spec, false)?;
+    let (declarators, members) =
+        member_declarators(alloc, world, &base, line.declarators.as_slice(), before)?;
+    Ok((TypedMemberDecl { spec, declarators }, members))
+}
+
+/// The declarators of a line of a struct's body, behind these members.
+#[cycle(walk)]
+#[tactic(auto, using(crate::proofs::MemberLists::member_lists))]
+fn member_declarators(
+    alloc: Global,
+    world: &mut World,
+    base: &Ty,
+    all: &[Declarator],
+    before: Table<Member>,
+) -> Result<(Items<Declared>, Table<Member>), Failure>
+    ensures { Walks (tree.member_declarators base.now (map walked.declarator all.now) before world.old)
+        result world.new }
+{
+    let mut found = Items::new(alloc);
+    let mut members = before;
+    for one in all {
+        let inside = declarator(alloc, world, one)?;
+        let (declared, behind) = one_member(alloc, world, base, inside, members)?;
+        members = behind;
+        found.push(declared)?;
+    }
+    Ok((found, members))
+}

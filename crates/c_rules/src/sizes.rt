@@ -1,0 +1,80 @@
+//! Sizes and casts.
+
+ghost use Rattle.std.specs.Prelude.{◌≡◌};
+ghost use Rattle.c_rules.specs.Rules as spec;
+ghost use Rattle.c_scope.specs.Walks.{Walks};
+
+use crate::constants::of_cast;
+use crate::conversions::{has_units, value_type};
+use c_scope::{Failure, Rule, World, found, test};
+use c_typed::{Constant, TypedExpr, TypedForm, TypedTypeWord};
+use c_types::{Ty, copy_type, is_scalar, is_void};
+use sqlite_items::Boxed;
+use std::alloc::{AllocError, Global};
+
+/// `sizeof` of an expression.
+///
+/// # Errors
+///
+/// `Broken`, at the first rule that is broken. `Memory`, where no memory is left.
+#[tactic(auto, unfolding(crate::specs::Rules::size_of_value, crate::specs::Operators::typed, crate::specs::Operators::type_of))]
+pub fn size_of_value(alloc: Global, world: &World, x: TypedExpr) -> Result<TypedExpr, Failure>
+    ensures { Walks (spec.size_of_value x world.now) result world.now }
+{
+    test(Rule::Unsized, has_units(&world.structs, &x.ty))?;
+    Ok(TypedExpr {
+        form: TypedForm::SizeofExpr(Boxed::new(alloc, x)?),
+        ty: Ty::Int,
+        constant: Constant::Other,
+    })
+}
+
+/// `sizeof` of a type word.
+///
+/// # Errors
+///
+/// `Broken`, at the first rule that is broken. `Memory`, where no memory is left.
+#[tactic(auto, unfolding(crate::specs::Rules::size_of_type, crate::specs::Operators::typed))]
+pub fn size_of_type(alloc: Global, world: &World, word: TypedTypeWord) -> Result<TypedExpr, Failure>
+    ensures { Walks (spec.size_of_type word world.now) result world.now }
+{
+    let units = found(Rule::Unsized, world.structs.units(&word.ty).ok())?;
+    Ok(TypedExpr {
+        form: TypedForm::SizeofType(Boxed::new(alloc, word)?),
+        ty: Ty::Int,
+        constant: Constant::Value(i64::from(units)),
+    })
+}
+
+/// Whether an expression may be cast to the type: to `void` from anything, else from a scalar to a
+/// scalar.
+#[tactic(auto, unfolding(crate::specs::Rules::may_be_cast))]
+fn may_be_cast(alloc: Global, x: &TypedExpr, to: &Ty) -> Result<bool, AllocError>
+    ensures { IfOk result (λ may. may ≡ spec.may_be_cast x.now to.now) }
+{
+    Ok(is_void(to) || (is_scalar(to) && is_scalar(&value_type(alloc, x)?)))
+}
+
+/// A cast.
+///
+/// # Errors
+///
+/// `Broken`, at the first rule that is broken. `Memory`, where no memory is left.
+#[tactic(auto, unfolding(crate::specs::Rules::cast, crate::specs::Operators::typed, crate::specs::Operators::constant_of))]
+pub fn cast(
+    alloc: Global,
+    _world: &World,
+    word: TypedTypeWord,
+    x: TypedExpr,
+) -> Result<TypedExpr, Failure>
+    ensures { Walks (spec.cast word x _world.now) result _world.now }
+{
+    test(Rule::Cast, may_be_cast(alloc, &x, &word.ty)?)?;
+    let ty = copy_type(&word.ty)?;
+    let constant = of_cast(&ty, x.constant);
+    Ok(TypedExpr {
+        form: TypedForm::Cast(Boxed::new(alloc, word)?, Boxed::new(alloc, x)?),
+        ty,
+        constant,
+    })
+}
