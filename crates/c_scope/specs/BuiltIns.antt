@@ -20,7 +20,7 @@ built_ins = (codes "spawn", built_in.Spawn) ∷ (codes "join", built_in.Join) �
 
 abbrev pub named_in : List (Name × BuiltIn) → Name → Option BuiltIn
 named_in [] x = None
-named_in (b ∷ bs) x = if bytes_eq b.0 x then Some b.1 else named_in bs x
+named_in (b ∷ bs) x = if bytes_eq x b.0 then Some b.1 else named_in bs x
 
 unfoldable pub built_in_named : Name → Option BuiltIn
 built_in_named = named_in built_ins

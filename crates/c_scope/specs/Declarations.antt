@@ -1,6 +1,6 @@
 -- The rules of names that are declared: variables, types, functions, parameters, members and type words.
 use Rattle.std.specs.Prelude.{ℕ, zero, suc, ◌+◌, Bool, true, false, not, ◌&&◌, ◌||◌, if◌then◌else◌, nat_le, List, [], ◌∷◌, ◌++◌, length, map, Option, Some, None, is_some, is_none, slice_get, slice_set}
-use Rattle.tables.specs.Places.{place_of}
+use Rattle.tables.specs.Places.{first_named}
 use Rattle.c_layers.specs.declared.layer.Layer.{Layer}
 use Rattle.c_layers.specs.declared.layer.Layer.TheVariants as layer
 use Rattle.c_layers.specs.declared.layer.Parameter.{Parameter}
@@ -103,14 +103,24 @@ word_type base layers = do
 
 -- ---- members and structs
 
--- the type of a member that stands behind these
+-- no member before has the name
+unfoldable pub is_new_member : List Member → Name → Bool
+is_new_member before x = is_none (first_named (λ m. m.name) before x)
+
+-- what is asked of a member that stands behind these; `fits` says whether the functions in its type return scalars or nothing
+unfoldable pub member_rules : List Member → Name → Ty → Bool → Walk (Unit {0})
+member_rules before x t fits = do
+  w ← world
+  rule broken.Unsized (is_member_type w.structs t)
+  rule broken.Tag (is_new_member before x)
+  rule broken.Form fits
+
+-- the type of such a member
 unfoldable pub member_type : List Member → Name → Ty → List Layer → Walk Ty
 member_type before x base layers = do
   w ← world
   t ← found broken.Unsized (whole_of (shaped w.structs base layers))
-  rule broken.Unsized (is_member_type w.structs t)
-  rule broken.Tag (is_none (place_of (λ m. m.name) before x))
-  rule broken.Form (results_fit w.structs base layers)
+  member_rules before x t (results_fit w.structs base layers)
   pure t
 
 abbrev pub is_undefined_at : Option StructDef → Bool

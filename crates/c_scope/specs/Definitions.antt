@@ -1,14 +1,13 @@
 -- What declarations of variables and functions change, and what is asked of functions behind the last item.
-use Rattle.std.specs.Prelude.{ℕ, ◌+◌, Bool, true, false, not, ◌&&◌, if◌then◌else◌, List, [], ◌∷◌, ◌++◌, length, Option, Some, None, is_none, is_some}
+use Rattle.std.specs.Prelude.{ℕ, ◌+◌, Bool, true, false, not, ◌&&◌, ◌||◌, if◌then◌else◌, List, [], ◌∷◌, ◌++◌, length, nat_eq, Option, Some, None, is_none, is_some}
 use Rattle.c_layers.specs.declared.layer.Layer.{Layer}
 use Rattle.c_layers.specs.declared.layer.Layer.TheVariants as layer
 use Rattle.c_layers.specs.declared.layer.Parameter.{Parameter}
 use Rattle.c_layers.specs.declared.layer.Shape.{Shape}
-use Rattle.c_layers.specs.Shapes.{function}
-use Rattle.c_types.specs.declared.ty.FnTy.{FnTy}
+use Rattle.c_types.specs.declared.ty.FnTy.{FnTy, out-FnTy}
 use Rattle.c_types.specs.declared.ty.Ty.{Ty}
 use Rattle.c_types.specs.declared.ty.Ty.TheVariants as ty
-use Rattle.c_types.specs.Same.{same_function}
+use Rattle.c_types.specs.Same.{same}
 use Rattle.c_typed.specs.declared.entity.BuiltIn.{BuiltIn}
 use Rattle.c_typed.specs.declared.entity.Entity.{Entity}
 use Rattle.c_typed.specs.declared.entity.Entity.TheVariants as entity
@@ -30,9 +29,12 @@ make_known_by x f None = change (λ w. record w { functions = w.functions ++ rec
 abbrev pub make_known : Name → FnTy → Walk (Unit {0})
 make_known x f = world >>= (λ w. make_known_by x f (known_function w.functions x))
 
+unfoldable pub is_bound_here : World → Name → Bool
+is_bound_here w x = is_some (meaning_here (innermost w.scopes) x)
+
 -- it gets its name in the innermost scope, unless it has it there
 abbrev pub bind_function : Name → Walk (Unit {0})
-bind_function x = world >>= (λ w. if is_some (meaning_here (innermost w.scopes) x) then pure tt else bind x means.Function)
+bind_function x = world >>= (λ w. if is_bound_here w x then pure tt else bind x means.Function)
 
 -- a built-in that is declared again stays what it is
 abbrev pub declare_function_by : Name → FnTy → Option BuiltIn → Walk Entity
@@ -50,12 +52,17 @@ is_undefined_function (Some k) = not k.is_defined
 unfoldable pub may_be_defined : World → Name → Shape → Bool
 may_be_defined w x s = is_none (built_in_named x) && may_be_declared w x s && is_undefined_function (known_function w.functions x)
 
-unfoldable pub defined : KnownFunction → KnownFunction
-defined k = record k { is_defined = true }
+-- the same function, used or defined from here on
+unfoldable pub marked : Bool → Bool → KnownFunction → KnownFunction
+marked used defined k = record k { is_used = used || k.is_used; is_defined = defined || k.is_defined }
+
+-- the function of this name is used
+unfoldable pub mark_used : Name → Walk (Unit {0})
+mark_used x = change (λ w. record w { functions = with_function (marked true false) w.functions x })
 
 -- the function of this name is defined, and its locals begin
 unfoldable pub mark_defined : Name → Walk (Unit {0})
-mark_defined x = change (λ w. record w { functions = with_function defined w.functions x; locals = [] })
+mark_defined x = change (λ w. record w { functions = with_function (marked false true) w.functions x; locals = [] })
 
 -- ---- variables
 
@@ -109,7 +116,7 @@ undefined_use [] = None
 undefined_use (k ∷ ks) = if k.is_used && not k.is_defined then Some k.first else undefined_use ks
 
 unfoldable pub is_main_type : FnTy → Bool
-is_main_type f = same_function f (function ty.Int [])
+is_main_type f = same (out-FnTy f).result ty.Int && nat_eq (length (out-FnTy f).params) 0
 
 -- it is defined, as `int main(void)`
 abbrev pub is_main : Option KnownFunction → Bool

@@ -197,8 +197,34 @@ pub fn member_type(
 {
     let CheckedShape { shape, results_fit } = checked_shape(alloc, &world.structs, base, layers)?;
     let ty = found(Rule::Unsized, shape.into_whole())?;
-    test(Rule::Unsized, world.structs.is_member_type(&ty))?;
-    test(Rule::Tag, before.find(name.bytes()).is_none())?;
-    test(Rule::Form, results_fit)?;
+    member_rules(world, before, name, &ty, results_fit)?;
     Ok(ty)
+}
+
+/// What is asked of a member that stands behind these.
+#[tactic(auto, unfolding(crate::specs::Declarations::member_rules))]
+fn member_rules(
+    world: &World,
+    before: &Table<Member>,
+    name: &Name,
+    ty: &Ty,
+    fits: bool,
+) -> Result<(), Failure>
+    ensures { Walks (spec.member_rules before.now name.now ty.now fits world.now) result world.now }
+{
+    if !world.structs.is_member_type(ty) {
+        return Err(Failure::Broken(Rule::Unsized));
+    }
+    if !is_new_member(before, name) {
+        return Err(Failure::Broken(Rule::Tag));
+    }
+    test(Rule::Form, fits)
+}
+
+/// Whether no member before has the name.
+#[tactic(auto, unfolding(crate::specs::Declarations::is_new_member))]
+fn is_new_member(before: &Table<Member>, name: &Name) -> bool
+    ensures { result ≡ spec.is_new_member before.now name.now }
+{
+    before.find_item(name.bytes()).is_none()
 }

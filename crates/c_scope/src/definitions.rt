@@ -1,8 +1,9 @@
 //! What the definition of a function changes.
 
-ghost use Rattle.std.specs.Prelude.{◌≡◌, IfOk};
+ghost use Rattle.std.specs.Prelude.{◌≡◌, IfOk, OnOk, IsTrue};
 ghost use Rattle.std.specs.Option.{option_copied};
 ghost use Rattle.c_scope.specs.Definitions as spec;
+ghost use Rattle.c_scope.specs.Scopes.{with_function};
 ghost use Rattle.c_scope.specs.Walks.{Walks};
 
 use crate::failure::Failure;
@@ -11,7 +12,8 @@ use crate::world::{KnownFunction, World};
 use c_layers::{Layer, Parameter, Parameters};
 use c_types::{Name, copy_name};
 use sqlite_items::Items;
-use std::alloc::Global;
+use std::alloc::{AllocError, Global};
+use tables::Table;
 
 /// The parameters of the list at the name.
 pub fn own_parameters(layers: &[Layer]) -> Option<&Parameters>
@@ -35,33 +37,83 @@ pub fn all_named(params: &[Parameter]) -> bool
     true
 }
 
+/// The function of this name is used.
+///
+/// # Errors
+///
+/// `Memory`, where no memory is left.
+#[tactic(auto, unfolding(crate::specs::Definitions::mark_used))]
+pub fn mark_used(alloc: Global, world: &mut World, name: &Name) -> Result<(), Failure>
+    ensures { Walks (spec.mark_used name.now world.old) result world.new }
+{
+    mark(alloc, &mut world.functions, name, true, false)?;
+    Ok(())
+}
+
 /// The function of this name is defined, and its locals begin.
 ///
 /// # Errors
 ///
 /// `Memory`, where no memory is left.
-#[tactic(auto, unfolding(crate::specs::Definitions::mark_defined, crate::specs::Definitions::defined))]
+#[tactic(auto, unfolding(crate::specs::Definitions::mark_defined))]
 pub fn mark_defined(alloc: Global, world: &mut World, name: &Name) -> Result<(), Failure>
     ensures { Walks (spec.mark_defined name.now world.old) result world.new }
 {
-    if let Some(place) = world.functions.find(name.bytes()) {
-        let defined = defined(alloc, &world.functions.as_slice()[place])?;
-        world.functions.replace(place, defined);
-    }
+    mark(alloc, &mut world.functions, name, false, true)?;
     world.locals = Items::new(alloc);
     Ok(())
 }
 
-/// The same function, defined.
-fn defined(alloc: Global, function: &KnownFunction) -> Result<KnownFunction, Failure>
-    ensures { IfOk result (λ defined. defined ≡ spec.defined function.now) }
+/// The function of this name is used or defined from here on. It is copied at most twice.
+#[tactic(auto, using(crate::proofs::MarkedFunctions::marks))]
+fn mark(
+    alloc: Global,
+    functions: &mut Table<KnownFunction>,
+    name: &Name,
+    used: bool,
+    defined: bool,
+) -> Result<(), AllocError>
+    ensures { OnOk result
+        (functions.new ≡ with_function (spec.marked used defined) functions.old name.now) }
+{
+    let Some(place) = functions.find(name.bytes()) else {
+        return Ok(());
+    };
+    let Some(function) = functions.get(place) else {
+        unreachable!()
+    };
+    if has_marks(function, used, defined) {
+        return Ok(());
+    }
+    let marked = marked(alloc, function, used, defined)?;
+    functions.replace(place, marked);
+    Ok(())
+}
+
+/// Whether nothing changes.
+#[tactic(auto, unfolding(crate::specs::Definitions::marked), using(crate::proofs::MarkedFunctions::marked_same))]
+fn has_marks(function: &KnownFunction, used: bool, defined: bool) -> bool
+    ensures { IsTrue result → spec.marked used defined function.now ≡ function.now }
+{
+    (function.is_used || !used) && (function.is_defined || !defined)
+}
+
+/// The same function, used or defined from here on.
+#[tactic(auto, unfolding(crate::specs::Definitions::marked))]
+fn marked(
+    alloc: Global,
+    function: &KnownFunction,
+    used: bool,
+    defined: bool,
+) -> Result<KnownFunction, AllocError>
+    ensures { IfOk result (λ marked. marked ≡ spec.marked used defined function.now) }
 {
     Ok(KnownFunction {
         name: copy_name(alloc, &function.name)?,
         ty: function.ty.share()?,
         first: function.first,
-        is_used: function.is_used,
-        is_defined: true,
+        is_used: used || function.is_used,
+        is_defined: defined || function.is_defined,
     })
 }
 

@@ -11,7 +11,7 @@ use crate::scopes::Meaning;
 use crate::world::{KnownFunction, World};
 use c_layers::Shape;
 use c_typed::Entity;
-use c_types::{FnTy, Name, Ty, copy_name};
+use c_types::{FnTy, Name, Ty, copy_name, same};
 use shared::Shared;
 use std::alloc::{AllocError, Global};
 
@@ -24,7 +24,7 @@ fn make_known(
 ) -> Result<(), Failure>
     ensures { Walks (spec.make_known name.now ty.now world.old) result world.new }
 {
-    if world.functions.find(name.bytes()).is_some() {
+    if world.functions.find_item(name.bytes()).is_some() {
         return Ok(());
     }
     let function = KnownFunction {
@@ -38,14 +38,23 @@ fn make_known(
     Ok(())
 }
 
+/// Whether the innermost scope has the name.
+#[tactic(auto, unfolding(crate::specs::Definitions::is_bound_here))]
+fn is_bound_here(world: &World, name: &Name) -> bool
+    ensures { result ≡ spec.is_bound_here world.now name.now }
+{
+    world.scopes.meaning_here(name.bytes()).is_some()
+}
+
 /// A function gets its name in the innermost scope, unless it has it there.
 fn bind_function(alloc: Global, world: &mut World, name: &Name) -> Result<(), Failure>
     ensures { Walks (spec.bind_function name.now world.old) result world.new }
 {
-    if world.scopes.meaning_here(name.bytes()).is_some() {
+    if is_bound_here(world, name) {
         return Ok(());
     }
-    world.bind(alloc, name, Meaning::Function)
+    world.bind(alloc, name, Meaning::Function)?;
+    Ok(())
 }
 
 /// Declares a function, or a built-in again, and tells what the name stands for.
@@ -127,8 +136,9 @@ pub fn is_main(function: Option<&KnownFunction>) -> bool
 }
 
 /// Whether it is the type of a function without parameters that gives an `int`.
+#[tactic(auto, unfolding(crate::specs::Definitions::is_main_type))]
 fn is_main_type(ty: &FnTy) -> bool
     ensures { result ≡ spec.is_main_type ty.now }
 {
-    matches!(ty.result, Ty::Int) && ty.params.is_empty()
+    same(&ty.result, &Ty::Int) && ty.params.len() == 0
 }

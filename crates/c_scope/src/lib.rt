@@ -14,7 +14,7 @@ mod world;
 
 pub use built_ins::{built_in_named, built_in_type};
 pub use declarations::{member_type, parameter, word_type};
-pub use definitions::{bind_parameters, mark_defined, own_parameters};
+pub use definitions::{all_named, bind_parameters, mark_defined, mark_used, own_parameters};
 pub use failure::{Failure, found, test};
 pub use functions::{declare_function, is_main, undefined_use};
 pub use rule::Rule;

@@ -1,8 +1,9 @@
 //! What is known at a place of the walk.
 
-ghost use Rattle.std.specs.Prelude.{◌≡◌, IfOk};
+ghost use Rattle.std.specs.Prelude.{◌≡◌, IfOk, MatchResult};
 ghost use Rattle.c_scope.specs.Scopes as spec;
 ghost use Rattle.c_scope.specs.Walks.{Walks};
+ghost use Rattle.c_scope.specs.declared.failure.Failure.TheVariants as failed;
 
 use crate::failure::Failure;
 use crate::scopes::{Meaning, Scopes};
@@ -116,7 +117,7 @@ impl World {
 ///
 /// `Memory`, where they are too many to be counted.
 pub fn count(n: usize) -> Result<u32, Failure>
-    ensures { IfOk result (λ counted. counted ≡ n) }
+    ensures { MatchResult result (λ counted. counted ≡ n) (λ failure. failure ≡ failed.Memory) }
 {
     if n > u32::MAX as usize {
         return Err(Failure::Memory);
