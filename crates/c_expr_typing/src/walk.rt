@@ -207,7 +207,7 @@ fn call_parts(
 
 /// The arguments of a call.
 #[cycle(walk)]
-#[tactic(auto, using(Rattle.c_scope.specs.inner.Lists.lists))]
+#[tactic(auto, using(c_scope::specs::inner::Lists::lists))]
 fn arguments(
     alloc: Global,
     world: &mut World,
@@ -310,7 +310,7 @@ fn direct(
 
 /// Suffixes, and their layers.
 #[cycle(walk)]
-#[tactic(auto, using(Rattle.c_scope.specs.inner.Lists.lists))]
+#[tactic(auto, using(c_scope::specs::inner::Lists::lists))]
 fn suffixes(
     alloc: Global,
     world: &mut World,
@@ -352,7 +352,7 @@ fn suffix(
 
 /// An array with this bound.
 #[cycle(walk)]
-#[tactic(auto, unfolding(Rattle.c_rules.specs.Operators.constant_of))]
+#[tactic(auto, unfolding(c_rules::specs::Operators::constant_of))]
 fn bounded(
     alloc: Global,
     world: &mut World,
@@ -390,7 +390,7 @@ fn parameters(
 
 /// At least one parameter.
 #[cycle(walk)]
-#[tactic(auto, using(Rattle.c_scope.specs.inner.Lists.lists))]
+#[tactic(auto, using(c_scope::specs::inner::Lists::lists))]
 fn parameter_list(
     alloc: Global,
     world: &mut World,

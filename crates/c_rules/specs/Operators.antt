@@ -121,43 +121,55 @@ subtracted defs a b =
 unfoldable pub ordered : Ty → Ty → Option Ty
 ordered a b = if_fits ((is_integer a && is_integer b) || (is_pointer a && same a b)) ty.Int
 
--- what both operands of `==` are converted to: integers to `int`, a pointer beside `void*` to `void*`, a constant 0 to the pointer's type
-unfoldable pub compared_as : TypedExpr → TypedExpr → Option Ty
-compared_as x y =
-    let a = value_type x in let b = value_type y in
+-- What follows takes the types of two values, and for each whether it is a constant 0.
+
+-- the one type to which both are converted to be compared: of integers `int`, of a pointer beside `void*` that, of a
+-- constant 0 beside a pointer the pointer's
+unfoldable pub common_type : Ty → Bool → Ty → Bool → Option Ty
+common_type a a_is_null b b_is_null =
     option_or (integers a b)
     (option_or (if_fits (is_pointer a && same a b) a)
     (option_or (if_fits (is_pointer a && is_void_pointer b) b)
     (option_or (if_fits (is_void_pointer a && is_pointer b) a)
-    (option_or (if_fits (is_pointer a && is_null y) a)
-    (if_fits (is_null x && is_pointer b) b)))))
+    (option_or (if_fits (is_pointer a && b_is_null) a)
+    (if_fits (a_is_null && is_pointer b) b)))))
 
-unfoldable pub compared : TypedExpr → TypedExpr → Option Ty
-compared x y = option_map (λ t. ty.Int) (compared_as x y)
+unfoldable pub compared : Ty → Bool → Ty → Bool → Option Ty
+compared a a_is_null b b_is_null = option_map (λ t. ty.Int) (common_type a a_is_null b b_is_null)
 
 -- two scalars
 unfoldable pub tested : Ty → Ty → Option Ty
 tested a b = if_fits (is_scalar a && is_scalar b) ty.Int
 
 -- the type that a binary operator gives
-abbrev pub operated : List StructDef → BinaryOperator → TypedExpr → TypedExpr → Option Ty
-operated defs op.LogicalOr x y = tested (value_type x) (value_type y)
-operated defs op.LogicalAnd x y = tested (value_type x) (value_type y)
-operated defs op.Equal x y = compared x y
-operated defs op.NotEqual x y = compared x y
-operated defs op.Less x y = ordered (value_type x) (value_type y)
-operated defs op.Greater x y = ordered (value_type x) (value_type y)
-operated defs op.LessEqual x y = ordered (value_type x) (value_type y)
-operated defs op.GreaterEqual x y = ordered (value_type x) (value_type y)
-operated defs op.Add x y = added defs (value_type x) (value_type y)
-operated defs op.Subtract x y = subtracted defs (value_type x) (value_type y)
-operated defs o x y = integers (value_type x) (value_type y)
+abbrev pub operated_types : List StructDef → BinaryOperator → Ty → Bool → Ty → Bool → Option Ty
+operated_types defs op.LogicalOr a a_is_null b b_is_null = tested a b
+operated_types defs op.LogicalAnd a a_is_null b b_is_null = tested a b
+operated_types defs op.Equal a a_is_null b b_is_null = compared a a_is_null b b_is_null
+operated_types defs op.NotEqual a a_is_null b b_is_null = compared a a_is_null b b_is_null
+operated_types defs op.Less a a_is_null b b_is_null = ordered a b
+operated_types defs op.Greater a a_is_null b b_is_null = ordered a b
+operated_types defs op.LessEqual a a_is_null b b_is_null = ordered a b
+operated_types defs op.GreaterEqual a a_is_null b b_is_null = ordered a b
+operated_types defs op.Add a a_is_null b b_is_null = added defs a b
+operated_types defs op.Subtract a a_is_null b b_is_null = subtracted defs a b
+operated_types defs o a a_is_null b b_is_null = integers a b
 
 -- the type of `?:`: of two integers `int`, of two same pointers theirs, of a pointer and a constant 0 the pointer's
-unfoldable pub chosen : TypedExpr → TypedExpr → Option Ty
-chosen x y =
-    let a = value_type x in let b = value_type y in
+unfoldable pub chosen_type : Ty → Bool → Ty → Bool → Option Ty
+chosen_type a a_is_null b b_is_null =
     option_or (integers a b)
     (option_or (if_fits (is_pointer a && same a b) a)
-    (option_or (if_fits (is_pointer a && is_null y) a)
-    (if_fits (is_null x && is_pointer b) b)))
+    (option_or (if_fits (is_pointer a && b_is_null) a)
+    (if_fits (a_is_null && is_pointer b) b)))
+
+-- ---- the same of two expressions
+
+unfoldable pub compared_as : TypedExpr → TypedExpr → Option Ty
+compared_as x y = common_type (value_type x) (is_null x) (value_type y) (is_null y)
+
+unfoldable pub operated : List StructDef → BinaryOperator → TypedExpr → TypedExpr → Option Ty
+operated defs o x y = operated_types defs o (value_type x) (is_null x) (value_type y) (is_null y)
+
+unfoldable pub chosen : TypedExpr → TypedExpr → Option Ty
+chosen x y = chosen_type (value_type x) (is_null x) (value_type y) (is_null y)

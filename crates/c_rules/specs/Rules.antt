@@ -36,7 +36,8 @@ use Rattle.c_scope.specs.declared.scopes.Meaning.{Meaning}
 use Rattle.c_scope.specs.declared.scopes.Meaning.TheVariants as means
 use Rattle.c_scope.specs.declared.world.World.{World}
 use Rattle.c_scope.specs.BuiltIns.{Name, built_in_named, built_in_type}
-use Rattle.c_scope.specs.Scopes.{known_function, meaning_of, with_function}
+use Rattle.c_scope.specs.Definitions.{mark_used}
+use Rattle.c_scope.specs.Scopes.{known_function, meaning_of}
 use Rattle.c_scope.specs.Walk.{Walk, ◌>>=◌, ◌>>◌, breaks, change, found, world, pure, rule}
 use Rattle.c_rules.specs.declared.place.Place.{Place}
 use Rattle.c_rules.specs.declared.place.Place.TheVariants.{Callee, Value}
@@ -45,16 +46,13 @@ use Rattle.c_rules.specs.Operators.{FormLayer, chosen, constant_of, converts, fo
 
 -- ---- names
 
-unfoldable pub used : KnownFunction → KnownFunction
-used k = record k { is_used = true }
-
 unfoldable pub named : Name → Entity → Ty → TypedExpr
 named x e t = typed (form.Identifier x e) t constant.Other
 
 abbrev pub mentioned_by : Name → Option KnownFunction → Walk TypedExpr
 mentioned_by x None = breaks broken.Undeclared
 mentioned_by x (Some k) = do
-  change (λ w. record w { functions = with_function used w.functions x })
+  mark_used x
   pure (named x entity.Function (ty.Function k.ty))
 
 -- a name that means a function, which is always known

@@ -47,7 +47,10 @@ pub fn assignment(
 fn plain(alloc: Global, _world: &World, x: &TypedExpr, y: &TypedExpr) -> Result<Ty, Failure>
     ensures { Walks (spec.plain x.now y.now _world.now) result _world.now }
 {
-    test(Rule::Unconverted, !takes_value(&x.ty) || converts(alloc, y, &x.ty)?)?;
+    test(
+        Rule::Unconverted,
+        !takes_value(&x.ty) || converts(alloc, y, &x.ty)?,
+    )?;
     test(Rule::NotLvalue, is_assignable(x))?;
     Ok(assigned_type(&x.ty)?)
 }
@@ -74,8 +77,14 @@ fn updated(
 ) -> Result<Ty, Failure>
     ensures { Walks (spec.updated operator x.now y.now world.now) result world.now }
 {
-    let ty = found(Rule::Operands, operated(alloc, &world.structs, operator, x, y)?)?;
-    test(Rule::Unconverted, !takes_value(&x.ty) || type_converts(&ty, &x.ty))?;
+    let ty = found(
+        Rule::Operands,
+        operated(alloc, &world.structs, operator, x, y)?,
+    )?;
+    test(
+        Rule::Unconverted,
+        !takes_value(&x.ty) || type_converts(&ty, &x.ty),
+    )?;
     test(Rule::NotLvalue, is_assignable(x))?;
     Ok(copy_type(&x.ty)?)
 }

@@ -26,11 +26,7 @@ fn called_type(callee: &TypedExpr) -> Option<&FnTy>
 }
 
 /// Whether each argument that has a parameter converts to it.
-fn all_convert(
-    alloc: Global,
-    arguments: &[TypedExpr],
-    params: &[Ty],
-) -> Result<bool, AllocError>
+fn all_convert(alloc: Global, arguments: &[TypedExpr], params: &[Ty]) -> Result<bool, AllocError>
     ensures { IfOk result (λ all. all ≡ spec.all_convert arguments.now params.now) }
 {
     for (argument, param) in arguments.iter().zip(params) {

@@ -10,8 +10,8 @@ ghost use Rattle.c_types.specs.Units as units;
 use c_scope::{Failure, Rule};
 use c_typed::{Constant, TypedExpr};
 use c_types::{
-    StructTable, Ty, copy_type, decay, is_integer, is_object_pointer, is_pointer, is_scalar, is_struct,
-    is_void_pointer, same, target_of,
+    StructTable, Ty, copy_type, decay, is_integer, is_object_pointer, is_pointer, is_scalar,
+    is_struct, is_void_pointer, same, target_of,
 };
 use std::alloc::{AllocError, Global};
 
@@ -39,7 +39,7 @@ pub(crate) fn is_counted(structs: &StructTable, ty: &Ty) -> bool
 }
 
 /// Whether a type has units that aren't refused.
-#[tactic(auto, unfolding(Rattle.c_types.specs.Units.has_units))]
+#[tactic(auto, unfolding(c_types::specs::Units::has_units))]
 pub(crate) fn has_units(structs: &StructTable, ty: &Ty) -> bool
     ensures { result ≡ units.has_units structs.now ty.now }
 {

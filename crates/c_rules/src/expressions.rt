@@ -119,12 +119,7 @@ pub fn conditional(
 ///
 /// `Broken`, at the first rule that is broken. `Memory`, where no memory is left.
 #[tactic(auto, unfolding(crate::specs::Rules::index, crate::specs::Operators::typed))]
-pub fn index(
-    alloc: Global,
-    world: &World,
-    x: TypedExpr,
-    i: TypedExpr,
-) -> Result<TypedExpr, Failure>
+pub fn index(alloc: Global, world: &World, x: TypedExpr, i: TypedExpr) -> Result<TypedExpr, Failure>
     ensures { Walks (spec.index x i world.now) result world.now }
 {
     test(Rule::Operands, is_integer(&value_type(alloc, &i)?))?;

@@ -12,7 +12,7 @@ mod names;
 mod operators;
 mod place;
 mod sizes;
-mod unary;
+mod unary_operators;
 
 pub use assignments::{assignment, post_decrement, post_increment, pre_decrement, pre_increment};
 pub use calls::call;
@@ -24,4 +24,4 @@ pub use names::identifier;
 pub use operators::{chosen, compared_as, operated};
 pub use place::Place;
 pub use sizes::{cast, size_of_type, size_of_value};
-pub use unary::unary;
+pub use unary_operators::unary;

@@ -26,7 +26,10 @@ pub fn is_lvalue(e: &TypedExpr) -> bool
 fn is_variable(entity: Entity) -> bool
     ensures { result ≡ spec.is_variable entity }
 {
-    matches!(entity, Entity::Global(_) | Entity::Local(_) | Entity::Parameter)
+    matches!(
+        entity,
+        Entity::Global(_) | Entity::Local(_) | Entity::Parameter
+    )
 }
 
 /// Whether it is an lvalue that is no array.

@@ -1,6 +1,6 @@
 //! Members of structs.
 
-ghost use Rattle.std.specs.Prelude.{◌≡◌};
+ghost use Rattle.std.specs.Prelude.{◌≡◌, IfOk};
 ghost use Rattle.std.specs.Option.{option_copied};
 ghost use Rattle.c_rules.specs.Rules as spec;
 ghost use Rattle.c_scope.specs.Walks.{Walks};
@@ -15,11 +15,7 @@ use std::alloc::{AllocError, Global};
 
 /// A member of a struct that has units: its number and its type.
 #[tactic(auto, unfolding(crate::specs::Rules::member_of))]
-fn member_of(
-    structs: &StructTable,
-    name: &Name,
-    ty: &Ty,
-) -> Result<Option<(u32, Ty)>, AllocError>
+fn member_of(structs: &StructTable, name: &Name, ty: &Ty) -> Result<Option<(u32, Ty)>, AllocError>
     ensures { IfOk result (λ found. found ≡ spec.member_of structs.now name.now ty.now) }
 {
     if !has_units(structs, ty) {
@@ -51,12 +47,7 @@ fn member_at(structs: &StructTable, s: u32, place: u32) -> Option<&Ty>
 ///
 /// `Broken`, at the first rule that is broken. `Memory`, where no memory is left.
 #[tactic(auto, unfolding(crate::specs::Rules::member, crate::specs::Operators::typed, crate::specs::Operators::type_of))]
-pub fn member(
-    alloc: Global,
-    world: &World,
-    x: TypedExpr,
-    name: &Name,
-) -> Result<TypedExpr, Failure>
+pub fn member(alloc: Global, world: &World, x: TypedExpr, name: &Name) -> Result<TypedExpr, Failure>
     ensures { Walks (spec.member x name.now world.now) result world.now }
 {
     test(Rule::Member, is_lvalue(&x))?;
@@ -74,15 +65,13 @@ pub fn member(
 ///
 /// `Broken`, at the first rule that is broken. `Memory`, where no memory is left.
 #[tactic(auto, unfolding(crate::specs::Rules::arrow, crate::specs::Operators::typed))]
-pub fn arrow(
-    alloc: Global,
-    world: &World,
-    x: TypedExpr,
-    name: &Name,
-) -> Result<TypedExpr, Failure>
+pub fn arrow(alloc: Global, world: &World, x: TypedExpr, name: &Name) -> Result<TypedExpr, Failure>
     ensures { Walks (spec.arrow x name.now world.now) result world.now }
 {
-    let (number, ty) = found(Rule::Member, member_behind(alloc, &world.structs, &x, name)?)?;
+    let (number, ty) = found(
+        Rule::Member,
+        member_behind(alloc, &world.structs, &x, name)?,
+    )?;
     Ok(TypedExpr {
         form: TypedForm::Arrow(Boxed::new(alloc, x)?, copy_name(alloc, name)?, number),
         ty,

@@ -6,11 +6,11 @@ ghost use Rattle.c_rules.specs.Rules as spec;
 ghost use Rattle.c_scope.specs.Walks.{Walks};
 
 use crate::place::Place;
-use c_scope::{Failure, KnownFunction, Meaning, Rule, World, built_in_named, built_in_type};
+use c_scope::{Failure, Meaning, Rule, World, built_in_named, built_in_type, mark_used};
 use c_typed::{BuiltIn, Constant, Entity, TypedExpr, TypedForm};
 use c_types::{Name, Ty, copy_name, copy_type};
 use shared::Shared;
-use std::alloc::Global;
+use std::alloc::{AllocError, Global};
 
 /// A name.
 ///
@@ -32,7 +32,7 @@ pub fn identifier(
     match world.scopes.meaning(name.bytes()) {
         Some(Meaning::Variable(entity, ty)) => {
             let ty = copy_type(ty)?;
-            named(alloc, name, *entity, ty)
+            Ok(named(alloc, name, *entity, ty)?)
         }
         Some(Meaning::Function) => mentioned(alloc, world, name),
         _ => Err(Failure::Broken(Rule::Undeclared)),
@@ -40,7 +40,8 @@ pub fn identifier(
 }
 
 /// A name with what it stands for and its type.
-fn named(alloc: Global, name: &Name, entity: Entity, ty: Ty) -> Result<TypedExpr, Failure>
+#[tactic(auto, unfolding(crate::specs::Rules::named, crate::specs::Operators::typed))]
+fn named(alloc: Global, name: &Name, entity: Entity, ty: Ty) -> Result<TypedExpr, AllocError>
     ensures { IfOk result (λ e. e ≡ spec.named name.now entity ty) }
 {
     Ok(TypedExpr {
@@ -64,7 +65,7 @@ fn built_in_at(
         Place::Value => Err(Failure::Broken(Rule::Undeclared)),
         Place::Callee => {
             let ty = Ty::Function(Shared::new(alloc, built_in_type(alloc, built_in)?)?);
-            named(alloc, name, Entity::BuiltIn(built_in), ty)
+            Ok(named(alloc, name, Entity::BuiltIn(built_in), ty)?)
         }
     }
 }
@@ -73,28 +74,10 @@ fn built_in_at(
 fn mentioned(alloc: Global, world: &mut World, name: &Name) -> Result<TypedExpr, Failure>
     ensures { Walks (spec.mentioned name.now world.old) result world.new }
 {
-    let Some(place) = world.functions.find(name.bytes()) else {
+    let Some(function) = world.functions.find_item(name.bytes()) else {
         return Err(Failure::Broken(Rule::Undeclared));
     };
-    let function = &world.functions.as_slice()[place];
     let ty = Ty::Function(function.ty.share()?);
-    if !function.is_used {
-        let used = used(alloc, function)?;
-        world.functions.replace(place, used);
-    }
-    named(alloc, name, Entity::Function, ty)
-}
-
-/// The same function, used.
-#[tactic(auto, unfolding(crate::specs::Rules::used))]
-fn used(alloc: Global, function: &KnownFunction) -> Result<KnownFunction, Failure>
-    ensures { IfOk result (λ used. used ≡ spec.used function.now) }
-{
-    Ok(KnownFunction {
-        name: copy_name(alloc, &function.name)?,
-        ty: function.ty.share()?,
-        first: function.first,
-        is_used: true,
-        is_defined: function.is_defined,
-    })
+    mark_used(alloc, world, name)?;
+    Ok(named(alloc, name, Entity::Function, ty)?)
 }

@@ -79,47 +79,101 @@ fn tested(a: &Ty, b: &Ty) -> Option<Ty>
     None
 }
 
-/// What both operands of `==` are converted to.
+/// The type to which two values are converted to be compared; each type with whether its value is a
+/// constant 0.
+#[tactic(auto, unfolding(crate::specs::Operators::common_type, crate::specs::Operators::integers))]
+fn common_type(a: &Ty, a_is_null: bool, b: &Ty, b_is_null: bool) -> Result<Option<Ty>, AllocError>
+    ensures { IfOk result (λ ty. ty ≡ spec.common_type a.now a_is_null b.now b_is_null) }
+{
+    if is_integer(a) && is_integer(b) {
+        return Ok(Some(Ty::Int));
+    }
+    if is_pointer(a) && same(a, b) {
+        return Ok(Some(copy_type(a)?));
+    }
+    if is_pointer(a) && is_void_pointer(b) {
+        return Ok(Some(copy_type(b)?));
+    }
+    if is_void_pointer(a) && is_pointer(b) {
+        return Ok(Some(copy_type(a)?));
+    }
+    if is_pointer(a) && b_is_null {
+        return Ok(Some(copy_type(a)?));
+    }
+    if a_is_null && is_pointer(b) {
+        return Ok(Some(copy_type(b)?));
+    }
+    Ok(None)
+}
+
+/// `int`, where two values are converted to one type to be compared.
+#[tactic(auto, unfolding(crate::specs::Operators::compared))]
+fn compared(a: &Ty, a_is_null: bool, b: &Ty, b_is_null: bool) -> Result<Option<Ty>, AllocError>
+    ensures { IfOk result (λ ty. ty ≡ spec.compared a.now a_is_null b.now b_is_null) }
+{
+    match common_type(a, a_is_null, b, b_is_null)? {
+        Some(_) => Ok(Some(Ty::Int)),
+        None => Ok(None),
+    }
+}
+
+/// The type that a binary operator gives of two values.
+fn operated_types(
+    structs: &StructTable,
+    operator: BinaryOperator,
+    a: &Ty,
+    a_is_null: bool,
+    b: &Ty,
+    b_is_null: bool,
+) -> Result<Option<Ty>, AllocError>
+    ensures { IfOk result
+        (λ ty. ty ≡ spec.operated_types structs.now operator a.now a_is_null b.now b_is_null) }
+{
+    match operator {
+        BinaryOperator::LogicalOr | BinaryOperator::LogicalAnd => Ok(tested(a, b)),
+        BinaryOperator::Equal | BinaryOperator::NotEqual => compared(a, a_is_null, b, b_is_null),
+        BinaryOperator::Less
+        | BinaryOperator::Greater
+        | BinaryOperator::LessEqual
+        | BinaryOperator::GreaterEqual => Ok(ordered(a, b)),
+        BinaryOperator::Add => added(structs, a, b),
+        BinaryOperator::Subtract => subtracted(structs, a, b),
+        _ => Ok(integers(a, b)),
+    }
+}
+
+/// The type of `?:` of two values.
+#[tactic(auto, unfolding(crate::specs::Operators::chosen_type, crate::specs::Operators::integers))]
+fn chosen_type(a: &Ty, a_is_null: bool, b: &Ty, b_is_null: bool) -> Result<Option<Ty>, AllocError>
+    ensures { IfOk result (λ ty. ty ≡ spec.chosen_type a.now a_is_null b.now b_is_null) }
+{
+    if is_integer(a) && is_integer(b) {
+        return Ok(Some(Ty::Int));
+    }
+    if is_pointer(a) && same(a, b) {
+        return Ok(Some(copy_type(a)?));
+    }
+    if is_pointer(a) && b_is_null {
+        return Ok(Some(copy_type(a)?));
+    }
+    if a_is_null && is_pointer(b) {
+        return Ok(Some(copy_type(b)?));
+    }
+    Ok(None)
+}
+
+/// What both operands of `==` are converted to, and none where there is no such type.
 ///
 /// # Errors
 ///
 /// `AllocError`, where no memory is left.
-#[tactic(auto, unfolding(crate::specs::Operators::compared_as, crate::specs::Operators::integers))]
+#[tactic(auto, unfolding(crate::specs::Operators::compared_as))]
 pub fn compared_as(alloc: Global, x: &TypedExpr, y: &TypedExpr) -> Result<Option<Ty>, AllocError>
     ensures { IfOk result (λ ty. ty ≡ spec.compared_as x.now y.now) }
 {
     let a = value_type(alloc, x)?;
     let b = value_type(alloc, y)?;
-    if is_integer(&a) && is_integer(&b) {
-        return Ok(Some(Ty::Int));
-    }
-    if is_pointer(&a) && same(&a, &b) {
-        return Ok(Some(a));
-    }
-    if is_pointer(&a) && is_void_pointer(&b) {
-        return Ok(Some(b));
-    }
-    if is_void_pointer(&a) && is_pointer(&b) {
-        return Ok(Some(a));
-    }
-    if is_pointer(&a) && is_null(y) {
-        return Ok(Some(a));
-    }
-    if is_null(x) && is_pointer(&b) {
-        return Ok(Some(b));
-    }
-    Ok(None)
-}
-
-/// `int`, where the operands of `==` are converted to one type.
-#[tactic(auto, unfolding(crate::specs::Operators::compared))]
-fn compared(alloc: Global, x: &TypedExpr, y: &TypedExpr) -> Result<Option<Ty>, AllocError>
-    ensures { IfOk result (λ ty. ty ≡ spec.compared x.now y.now) }
-{
-    match compared_as(alloc, x, y)? {
-        Some(_) => Ok(Some(Ty::Int)),
-        None => Ok(None),
-    }
+    common_type(&a, is_null(x), &b, is_null(y))
 }
 
 /// The type that a binary operator gives, and none where its operands don't fit.
@@ -127,6 +181,7 @@ fn compared(alloc: Global, x: &TypedExpr, y: &TypedExpr) -> Result<Option<Ty>, A
 /// # Errors
 ///
 /// `AllocError`, where no memory is left.
+#[tactic(auto, unfolding(crate::specs::Operators::operated))]
 pub fn operated(
     alloc: Global,
     structs: &StructTable,
@@ -136,21 +191,9 @@ pub fn operated(
 ) -> Result<Option<Ty>, AllocError>
     ensures { IfOk result (λ ty. ty ≡ spec.operated structs.now operator x.now y.now) }
 {
-    if matches!(operator, BinaryOperator::Equal | BinaryOperator::NotEqual) {
-        return compared(alloc, x, y);
-    }
     let a = value_type(alloc, x)?;
     let b = value_type(alloc, y)?;
-    match operator {
-        BinaryOperator::LogicalOr | BinaryOperator::LogicalAnd => Ok(tested(&a, &b)),
-        BinaryOperator::Less
-        | BinaryOperator::Greater
-        | BinaryOperator::LessEqual
-        | BinaryOperator::GreaterEqual => Ok(ordered(&a, &b)),
-        BinaryOperator::Add => added(structs, &a, &b),
-        BinaryOperator::Subtract => subtracted(structs, &a, &b),
-        _ => Ok(integers(&a, &b)),
-    }
+    operated_types(structs, operator, &a, is_null(x), &b, is_null(y))
 }
 
 /// The type of `?:`, and none where its arms don't fit.
@@ -158,23 +201,11 @@ pub fn operated(
 /// # Errors
 ///
 /// `AllocError`, where no memory is left.
-#[tactic(auto, unfolding(crate::specs::Operators::chosen, crate::specs::Operators::integers))]
+#[tactic(auto, unfolding(crate::specs::Operators::chosen))]
 pub fn chosen(alloc: Global, x: &TypedExpr, y: &TypedExpr) -> Result<Option<Ty>, AllocError>
     ensures { IfOk result (λ ty. ty ≡ spec.chosen x.now y.now) }
 {
     let a = value_type(alloc, x)?;
     let b = value_type(alloc, y)?;
-    if is_integer(&a) && is_integer(&b) {
-        return Ok(Some(Ty::Int));
-    }
-    if is_pointer(&a) && same(&a, &b) {
-        return Ok(Some(a));
-    }
-    if is_pointer(&a) && is_null(y) {
-        return Ok(Some(a));
-    }
-    if is_null(x) && is_pointer(&b) {
-        return Ok(Some(b));
-    }
-    Ok(None)
+    chosen_type(&a, is_null(x), &b, is_null(y))
 }

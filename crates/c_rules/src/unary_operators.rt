@@ -84,7 +84,10 @@ fn dereference(alloc: Global, world: &World, x: TypedExpr) -> Result<TypedExpr, 
     ensures { Walks (spec.dereference x world.now) result world.now }
 {
     let ty = pointed(alloc, &x)?;
-    test(Rule::Pointer, is_function(&ty) || has_units(&world.structs, &ty))?;
+    test(
+        Rule::Pointer,
+        is_function(&ty) || has_units(&world.structs, &ty),
+    )?;
     Ok(TypedExpr {
         form: TypedForm::Unary(UnaryOperator::Dereference, Boxed::new(alloc, x)?),
         ty,
