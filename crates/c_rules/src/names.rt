@@ -34,7 +34,7 @@ pub fn identifier(
             let ty = copy_type(ty)?;
             Ok(named(alloc, name, *entity, ty)?)
         }
-        Some(Meaning::Function) => mentioned(alloc, world, name),
+        Some(Meaning::Function) => Ok(mentioned(alloc, world, name)?),
         _ => Err(Failure::Broken(Rule::Undeclared)),
     }
 }
