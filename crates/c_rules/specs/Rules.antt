@@ -36,6 +36,7 @@ use Rattle.c_scope.specs.declared.scopes.Meaning.{Meaning}
 use Rattle.c_scope.specs.declared.scopes.Meaning.TheVariants as means
 use Rattle.c_scope.specs.declared.world.World.{World}
 use Rattle.c_scope.specs.BuiltIns.{Name, built_in_named, built_in_type}
+use Rattle.c_scope.specs.Declarations.{is_function_name}
 use Rattle.c_scope.specs.Definitions.{mark_used}
 use Rattle.c_scope.specs.Scopes.{known_function, meaning_of}
 use Rattle.c_scope.specs.Walk.{Walk, ◌>>=◌, ◌>>◌, breaks, change, found, world, pure, rule}
@@ -59,10 +60,17 @@ mentioned_by x (Some k) = do
 abbrev pub mentioned : Name → Walk TypedExpr
 mentioned x = world >>= (λ w. mentioned_by x (known_function w.functions x))
 
-abbrev pub meant : Name → Option Meaning → Walk TypedExpr
-meant x (Some (means.Variable e t)) = pure (named x e t)
-meant x (Some means.Function) = mentioned x
-meant x _ = breaks broken.Undeclared
+unfoldable pub means_function : World → Name → Bool
+means_function w x = is_function_name (meaning_of w.scopes x)
+
+-- a variable or a parameter; a type name is none
+abbrev pub variable : Name → Option Meaning → Walk TypedExpr
+variable x (Some (means.Variable e t)) = pure (named x e t)
+variable x _ = breaks broken.Undeclared
+
+-- a name that is no built-in's
+abbrev pub meant : Name → Walk TypedExpr
+meant x = world >>= (λ w. if means_function w x then mentioned x else variable x (meaning_of w.scopes x))
 
 abbrev pub built_in_at : Name → Place → BuiltIn → Walk TypedExpr
 built_in_at x Value b = breaks broken.Undeclared
@@ -70,7 +78,7 @@ built_in_at x Callee b = pure (named x (entity.BuiltIn b) (ty.Function (built_in
 
 abbrev pub identifier_by : Name → Place → Option BuiltIn → Walk TypedExpr
 identifier_by x place (Some b) = built_in_at x place b
-identifier_by x place None = world >>= (λ w. meant x (meaning_of w.scopes x))
+identifier_by x place None = meant x
 
 unfoldable pub identifier : Name → Place → Walk TypedExpr
 identifier x place = identifier_by x place (built_in_named x)

@@ -30,10 +30,15 @@ fn called_type(callee: &TypedExpr) -> Option<&FnTy>
 fn all_convert(alloc: Global, arguments: &[TypedExpr], params: &[Ty]) -> Result<bool, AllocError>
     ensures { IfOk result (λ all. all ≡ spec.all_convert arguments.now params.now) }
 {
-    for i in 0..arguments.len().min(params.len()) {
-        if !converts(alloc, &arguments[i], &params[i])? {
+    let mut left = params;
+    for argument in arguments {
+        let Some((param, behind)) = left.split_first() else {
+            return Ok(true);
+        };
+        if !converts(alloc, argument, param)? {
             return Ok(false);
         }
+        left = behind;
     }
     Ok(true)
 }
