@@ -17,6 +17,7 @@ mod ty;
 pub use error::LayoutRefusal;
 pub use kinds::{decay, is_function, is_integer, is_scalar, is_void};
 pub use name::{Name, copy_name};
+pub use named_structs::{function_names_below, names_below};
 pub use part_count::parts;
 pub use sameness::{same, same_functions};
 pub use struct_table::{StructTable, copy_table};

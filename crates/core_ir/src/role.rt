@@ -1,8 +1,6 @@
-//! What control flow sees of an instruction, without types.
+//! What an instruction is to the rules on order.
 
-use sqlite_items::Items;
-
-/// What an instruction is to the rules on the order of instructions.
+/// What an instruction is to the rules on the order of instructions, and to the analysis of frame locals.
 #[derive(Clone, Copy, Debug, PartialEq, Eq)]
 pub enum Role {
     /// Nothing that these rules speak of.
@@ -35,16 +33,4 @@ pub enum Role {
     Fork,
     StartArg { t: u32 },
     StartFn { t: u32, f: u32 },
-}
-
-/// What control flow sees of an instruction.
-#[derive(Debug, Drop)]
-pub struct Outline {
-    pub role: Role,
-    /// The register that it defines.
-    pub defined: Option<u32>,
-    /// The registers that it uses, in the order of its operands.
-    pub used: Items<u32>,
-    /// The place to which it may jump.
-    pub target: Option<u32>,
 }

@@ -1,8 +1,8 @@
 -- Which frame locals are safe: those whose address is used in no other way than for accesses inside them, at constant
 -- offsets.
 use Rattle.std.specs.Prelude.{◌≡◌, ◌⊎◌, ℕ, List, Some, slice_get, map, ℤ, pos, ◌+ℤ◌, ◌*ℤ◌, ◌≤ℤ◌, ◌<ℤ◌}
-use Rattle.core_ir.specs.declared.outline.Outline.{Outline}
-use Rattle.core_ir.specs.declared.outline.Role.TheVariants as role
+use Rattle.core_ir.specs.Outline.{Outline}
+use Rattle.core_ir.specs.declared.role.Role.TheVariants as role
 use Rattle.core_ir.specs.declared.program.Function.{Function}
 use Rattle.core_ir.specs.declared.program.Local.{Local}
 use Rattle.core_ir.specs.Flow.{HasRole, Serves, Stands}

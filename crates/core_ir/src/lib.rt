@@ -5,8 +5,10 @@ mod instr;
 mod operator;
 mod outline;
 mod program;
+mod role;
 
 pub use instr::{Arguments, Instr, InstrList};
 pub use operator::Operator;
-pub use outline::{Outline, Role};
+pub use outline::HasOutline;
 pub use program::{Function, FunctionList, GlobalList, GlobalVar, Local, LocalList, Program};
+pub use role::Role;

@@ -1,12 +1,12 @@
 -- What control flow sees of each instruction, and the slots and types that it names.
-use Rattle.std.specs.Prelude.{ℕ, List, [], ◌∷◌, ◌++◌, map, Option, Some, None}
+use Rattle.std.specs.Prelude.{ℕ, List, [], ◌∷◌, Option, Some, None}
 use Rattle.c_types.specs.declared.ty.FnTy.{FnTy}
 use Rattle.c_types.specs.declared.ty.Ty.{Ty}
 use Rattle.core_ir.specs.declared.instr.Instr.{Instr}
 use Rattle.core_ir.specs.declared.instr.Instr.TheVariants.{Const, AddrG, AddrL, AddrF, GetLocal, SetLocal, Binary, Unary, PtrAdd, PtrConst, Cast, Touch, Load, Store, Jump, Branch, Call, CallInd, Return, Enter, Leave, Malloc, Free, Fork, StartArg, StartFn, Lock, Unlock, Join, Print, Input}
-use Rattle.core_ir.specs.declared.outline.Outline.{Outline}
-use Rattle.core_ir.specs.declared.outline.Role.{Role}
-use Rattle.core_ir.specs.declared.outline.Role.TheVariants as role
+use Rattle.core_ir.specs.Outline.{Outline}
+use Rattle.core_ir.specs.declared.role.Role.{Role}
+use Rattle.core_ir.specs.declared.role.Role.TheVariants as role
 
 -- the register that it defines
 abbrev pub defined : Instr → Option ℕ
@@ -62,6 +62,7 @@ target (Jump l) = Some l
 target (Branch a l) = Some l
 target _ = None
 
+-- what it is to the rules on order
 abbrev pub role_of : Instr → Role
 role_of (Const d v) = role.Const v
 role_of (AddrL d v) = role.Local v
@@ -83,9 +84,6 @@ role_of (Lock p) = role.Lock p
 role_of (Unlock p) = role.Lock p
 role_of _ = role.Plain
 
-abbrev pub outline_of : Instr → Outline
-outline_of i = record { role = role_of i; defined = defined i; used = used i; target = target i }
-
 -- the slot that it reads or writes
 abbrev pub slot : Instr → Option ℕ
 slot (GetLocal d s) = Some s
@@ -93,6 +91,15 @@ slot (SetLocal s a) = Some s
 slot (Call f args s) = s
 slot (CallInd c args ty s) = s
 slot _ = None
+
+abbrev pub outline_of : Instr → Outline
+outline_of i = record {
+  role = role_of i;
+  defined = defined i;
+  used = used i;
+  slot = slot i;
+  target = target i;
+}
 
 -- the types that it names
 abbrev pub types : Instr → List Ty

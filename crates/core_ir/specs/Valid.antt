@@ -1,26 +1,23 @@
 -- When a program is valid: numbers in range, the order of each body, touches before their accesses, and the layout.
-use Rattle.std.specs.Prelude.{◌≡◌, ◌≢◌, ◌⊎◌, ◌<◌, ◌≤◌, ℕ, suc, Bool, true, false, All, List, [], ◌∷◌, length, map, IsTrue, Option, Some, None, slice_get}
+use Rattle.std.specs.Prelude.{◌≡◌, ◌≢◌, ◌⊎◌, ◌<◌, ◌≤◌, ℕ, suc, Bool, true, false, All, List, [], length, map, IsTrue, Option, Some, None, slice_get}
 use Rattle.c_types.specs.declared.structs.StructDef.{StructDef}
 use Rattle.c_types.specs.declared.ty.FnTy.{FnTy, out-FnTy}
 use Rattle.c_types.specs.declared.ty.Ty.{Ty}
 use Rattle.c_types.specs.declared.ty.Ty.TheVariants as ty
 use Rattle.c_types.specs.Kinds.{is_scalar}
-use Rattle.c_types.specs.Sound.{IsSound, names_below}
+use Rattle.c_types.specs.Sound.{IsSound, function_names_below, names_below}
 use Rattle.core_ir.specs.declared.instr.Instr.{Instr}
 use Rattle.core_ir.specs.declared.instr.Instr.TheVariants.{AddrG, AddrL, AddrF, Binary, Unary, Cast, Touch, Load, Store, Call, CallInd, Lock, Unlock}
 use Rattle.core_ir.specs.declared.operator.Operator.{Operator}
 use Rattle.core_ir.specs.declared.operator.Operator.TheVariants as op
 use Rattle.core_ir.specs.declared.program.Function.{Function}
 use Rattle.core_ir.specs.declared.program.Program.{Program}
-use Rattle.core_ir.specs.Instructions.{defined, outline_of, slot, target, types, used}
-use Rattle.core_ir.specs.Layout.{GlobalsLie, HasPart, LocalsLie, first_address, global_units, local_units}
-use Rattle.core_ir.specs.Order.{IsFramed, IsFrameless, IsOrdered}
+use Rattle.core_ir.specs.Instructions.{outline_of, types}
+use Rattle.core_ir.specs.Layout.{GlobalsLie, LocalsLie, first_address, global_units, local_units}
+use Rattle.core_ir.specs.Order.{IsFramed, IsFrameless, IsOrdered, NumbersFit}
+use Rattle.core_ir.specs.Parts.{HasPart}
 
 -- ---- numbers in range
-
-abbrev pub OnSome : {A : Type 0} → Option A → (A → Type 0) → Type 0
-OnSome None P = Unit {0}
-OnSome (Some a) P = P a
 
 -- the operators of one operand
 abbrev pub is_unary : Operator → Bool
@@ -39,10 +36,14 @@ is_binary _ = true
 abbrev pub HasArguments : FnTy → List ℕ → Type 0
 HasArguments f args = length args ≡ length (out-FnTy f).params
 
-abbrev pub FunctionTypeFits : List StructDef → FnTy → Type 0
-FunctionTypeFits defs f = IsTrue (names_below (length defs) (ty.Function f))
+-- the structs that it names are of the table
+abbrev pub TypeFits : List StructDef → Ty → Type 0
+TypeFits defs t = IsTrue (names_below (length defs) t)
 
--- what each kind of instruction asks of its numbers beside registers, slots, places and types
+abbrev pub FunctionTypeFits : List StructDef → FnTy → Type 0
+FunctionTypeFits defs f = IsTrue (function_names_below (length defs) f)
+
+-- what each kind of instruction asks beside its registers, slots, places and types
 abbrev pub Fits : Program → Function → Instr → Type 0
 Fits p f (AddrG d g) = g < length p.globals
 Fits p f (AddrL d v) = v < length f.locals
@@ -50,21 +51,19 @@ Fits p f (AddrF d g) = g < length p.functions
 Fits p f (Binary d o a b) = IsTrue (is_binary o)
 Fits p f (Unary d o a) = IsTrue (is_unary o)
 Fits p f (Cast d a from to) = IsTrue (is_scalar from) × IsTrue (is_scalar to)
-Fits p f (Call g args s) = (callee : Function) × (slice_get p.functions g ≡ Some callee) × HasArguments callee.ty args
+Fits p f (Call g args s) =
+    (callee : Function) × (slice_get p.functions g ≡ Some callee) × HasArguments callee.ty args
 Fits p f (CallInd c args t s) = HasArguments t args × FunctionTypeFits p.structs t
 Fits p f _ = Unit {0}
 
 pub record IsInRange (p : Program) (f : Function) (i : Instr) : Type 0 where
-  pub defined : OnSome (defined i) (λ d. d < f.registers)
-  pub used : All (λ r. r < f.registers) (used i)
-  pub slot : OnSome (slot i) (λ s. s < f.slots)
-  pub target : OnSome (target i) (λ l. l < length f.body)
-  pub types : All (λ t. IsTrue (names_below (length p.structs) t)) (types i)
+  pub numbers : NumbersFit f.registers f.slots (length f.body) (outline_of i)
+  pub types : All (TypeFits p.structs) (types i)
   pub rest : Fits p f i
 
 -- ---- touches
 
--- the type of an access, and the touch that it asks for
+-- the type of an access
 abbrev pub access_type : Instr → Option Ty
 access_type (Load d p t) = Some t
 access_type (Store p a t) = Some t
@@ -72,15 +71,20 @@ access_type (Lock p) = Some ty.Int
 access_type (Unlock p) = Some ty.Int
 access_type _ = None
 
+-- the type of a touch
 abbrev pub touch_type : Instr → Option Ty
 touch_type (Touch p t) = Some t
 touch_type _ = None
 
 -- a touch's type is that of the access behind it, or has it as a part
 abbrev pub TouchesFit : List StructDef → List Instr → Type 0
-TouchesFit defs body = (k : ℕ) (before access : Instr) (whole part : Ty)
-    → slice_get body k ≡ Some before → slice_get body (suc k) ≡ Some access
-    → touch_type before ≡ Some whole → access_type access ≡ Some part → HasPart defs whole part
+TouchesFit defs body =
+    (k : ℕ) (touch access : Instr) (whole part : Ty)
+    → slice_get body k ≡ Some touch
+    → slice_get body (suc k) ≡ Some access
+    → touch_type touch ≡ Some whole
+    → access_type access ≡ Some part
+    → HasPart defs whole part
 
 -- ---- functions
 
@@ -101,7 +105,9 @@ most_frame_units = 16384
 
 -- a frame stands where there are locals
 abbrev pub FrameFits : Function → Type 0
-FrameFits f = ((f.locals ≢ []) × IsFramed (map outline_of f.body)) ⊎ ((f.locals ≡ []) × IsFrameless (map outline_of f.body))
+FrameFits f =
+    ((f.locals ≢ []) × IsFramed (map outline_of f.body))
+    ⊎ ((f.locals ≡ []) × IsFrameless (map outline_of f.body))
 
 pub record IsValidFunction (p : Program) (f : Function) : Type 0 where
   pub type_fits : FunctionTypeFits p.structs f.ty
@@ -120,9 +126,12 @@ pub record IsValidFunction (p : Program) (f : Function) : Type 0 where
 
 -- ---- programs
 
--- with the entry function
+-- the entry function is one of them
 abbrev pub most_functions : ℕ
 most_functions = 4096
+
+abbrev pub most_structs : ℕ
+most_structs = 1024
 
 abbrev pub most_global_units : ℕ
 most_global_units = 65536
@@ -136,7 +145,8 @@ pub record HasEntry (p : Program) : Type 0 where
 pub record IsValid (p : Program) : Type 0 where
   pub functions : length p.functions ≤ most_functions
   pub entry : HasEntry p
-  pub structs : IsSound p.structs
+  pub structs : length p.structs ≤ most_structs
+  pub structs_are_sound : IsSound p.structs
   pub globals_lie : GlobalsLie p.structs first_address p.globals
   pub global_units : global_units p.globals ≤ most_global_units
   pub each_function : All (IsValidFunction p) p.functions

@@ -1,6 +1,8 @@
+pub mod Outline
 pub mod Flow
-pub mod Instructions
 pub mod Order
+pub mod Instructions
+pub mod Parts
 pub mod Layout
 pub mod Valid
 pub mod SafeLocal

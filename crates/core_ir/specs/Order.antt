@@ -1,0 +1,112 @@
+-- The rules on the order of a body's instructions, by their outlines. Programs and the code made of them share them.
+use Rattle.std.specs.Prelude.{◌≡◌, ◌≢◌, ℕ, suc, ◌+◌, ◌<◌, List, ◌++◌, ◌∷◌, [], Some, IfSome}
+use Rattle.core_ir.specs.declared.role.Role.{Role}
+use Rattle.core_ir.specs.declared.role.Role.TheVariants as role
+use Rattle.core_ir.specs.Outline.{Outline, accessed}
+use Rattle.core_ir.specs.Flow.{Chain, HasRole, IsAmong, IsKept, IsUnreached, Serves, Stands, Unbroken}
+
+-- ---- numbers in range
+
+-- registers, slots and places are of the first so many
+pub record NumbersFit (registers slots places : ℕ) (i : Outline) : Type 0 where
+  pub defined : IfSome i.defined (λ d. d < registers)
+  pub used : (r : ℕ) → IsAmong i.used r → r < registers
+  pub slot : IfSome i.slot (λ s. s < slots)
+  pub target : IfSome i.target (λ l. l < places)
+
+-- ---- what an instruction asks of those before it
+
+-- what serves a use, and no jump from elsewhere comes between
+pub record Served (code : List Outline) (u r : ℕ) : Type 0 where
+  pub server : ℕ
+  pub serves : Serves code 0 server u r
+  pub unbroken : Unbroken code 0 server u
+
+-- a called register has a chain; where it begins with a load, the address stays in its register
+pub record Chained (code : List Outline) (u c : ℕ) : Type 0 where
+  pub first : ℕ
+  pub chain : Chain code 0 u c first
+  pub kept : (p : ℕ) → HasRole code 0 first (role.Load p) → IsKept code 0 first u p
+
+-- directly behind an instruction of this role, and no jump leads here
+pub record Behind (code : List Outline) (u : ℕ) (r : Role) : Type 0 where
+  pub before : ℕ
+  pub next : u ≡ suc before
+  pub there : HasRole code 0 before r
+  pub unreached : IsUnreached code 0 u
+
+-- the new thread's number, in register t
+pub record Forks (code : List Outline) (k t : ℕ) : Type 0 where
+  pub instruction : Outline
+  pub there : Stands code 0 k instruction
+  pub is : instruction.role ≡ role.Fork
+  pub defines : instruction.defined ≡ Some t
+
+-- the run of three instructions from place k that starts thread t with function f; no jump leads to the last two
+pub record IsStart (code : List Outline) (k t f : ℕ) : Type 0 where
+  pub number : Forks code k t
+  pub argument : HasRole code 0 (k + 1) (role.StartArg t)
+  pub function : HasRole code 0 (k + 2) (role.StartFn t f)
+  pub argument_unreached : IsUnreached code 0 (k + 1)
+  pub function_unreached : IsUnreached code 0 (k + 2)
+
+-- so many places behind the first of such a run
+pub record InStart (code : List Outline) (u behind : ℕ) : Type 0 where
+  pub first : ℕ
+  pub thread : ℕ
+  pub function : ℕ
+  pub is : u ≡ first + behind
+  pub run : IsStart code first thread function
+
+-- the function's register is served by no thread's number, and by nothing that served one of an earlier start
+pub record IsFresh (code : List Outline) (u f : ℕ) : Type 0 where
+  pub no_number : (s : ℕ) → Serves code 0 s u f → HasRole code 0 s role.Fork → ⊥
+  pub first_start :
+      (s v t g : ℕ)
+      → Serves code 0 s u f
+      → v < u
+      → HasRole code 0 v (role.StartFn t g)
+      → Serves code 0 s v g
+      → ⊥
+
+-- what the instruction at place u asks
+pub record IsOrderedAt (code : List Outline) (u : ℕ) (i : Outline) : Type 0 where
+  pub served : (r : ℕ) → IsAmong i.used r → Served code u r
+  pub chained : (c : ℕ) → i.role ≡ role.Indirect c → Chained code u c
+  pub argument : (t : ℕ) → i.role ≡ role.StartArg t → InStart code u 1
+  pub function : (t f : ℕ) → i.role ≡ role.StartFn t f → InStart code u 2
+  pub fresh : (t f : ℕ) → i.role ≡ role.StartFn t f → IsFresh code u f
+  -- an access stands behind the test of its address
+  pub touched : (p : ℕ) → accessed i.role ≡ Some p → Behind code u (role.Touch p)
+
+-- ---- bodies
+
+-- what stands at the end
+pub record EndsWith (code : List Outline) (r : Role) : Type 0 where
+  pub before : List Outline
+  pub last : Outline
+  pub is : code ≡ before ++ last ∷ []
+  pub has : last.role ≡ r
+
+-- the order of a body
+pub record IsOrdered (code : List Outline) : Type 0 where
+  pub ends : EndsWith code role.Return
+  pub each : (u : ℕ) (i : Outline) → Stands code 0 u i → IsOrderedAt code u i
+
+-- a frame is entered first and nowhere else, and left directly before each return and nowhere else
+pub record IsFramedAt (code : List Outline) (u : ℕ) (i : Outline) : Type 0 where
+  pub entered : i.role ≡ role.Enter → u ≡ 0
+  pub left : i.role ≡ role.Return → Behind code u role.Leave
+  pub left_only : i.role ≡ role.Leave → HasRole code 0 (suc u) role.Return
+
+pub record IsFramed (code : List Outline) : Type 0 where
+  pub entered : HasRole code 0 0 role.Enter
+  pub entry_unreached : IsUnreached code 0 0
+  pub each : (u : ℕ) (i : Outline) → Stands code 0 u i → IsFramedAt code u i
+
+-- without a frame nothing is entered or left
+abbrev pub IsFrameless : List Outline → Type 0
+IsFrameless code =
+    (u : ℕ) (i : Outline)
+    → Stands code 0 u i
+    → (i.role ≢ role.Enter) × (i.role ≢ role.Leave)
