@@ -1,0 +1,10 @@
+mod Places
+mod Sources
+mod Unbroken
+mod Tables
+mod Serving
+mod Known
+mod Deciding
+mod Starts
+mod Ends
+mod EachPlace

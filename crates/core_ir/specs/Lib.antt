@@ -7,3 +7,4 @@ pub mod Layout
 pub mod Valid
 pub mod SafeLocal
 pub mod Typed
+pub mod inner

@@ -1,8 +1,8 @@
 -- The rules on the order of a body's instructions, by their outlines. Programs and the code made of them share them.
-use Rattle.std.specs.Prelude.{◌≡◌, ◌≢◌, ℕ, suc, ◌+◌, ◌<◌, List, ◌++◌, ◌∷◌, [], Some, IfSome}
+use Rattle.std.specs.Prelude.{◌≡◌, ℕ, suc, ◌+◌, ◌<◌, List, ◌++◌, ◌∷◌, [], Some, IfSome}
 use Rattle.core_ir.specs.declared.role.Role.{Role}
 use Rattle.core_ir.specs.declared.role.Role.TheVariants as role
-use Rattle.core_ir.specs.Outline.{Outline, accessed}
+use Rattle.core_ir.specs.Outline.{Outline}
 use Rattle.core_ir.specs.Flow.{Chain, HasRole, IsAmong, IsKept, IsUnreached, Serves, Stands, Unbroken}
 
 -- ---- numbers in range
@@ -69,15 +69,19 @@ pub record IsFresh (code : List Outline) (u f : ℕ) : Type 0 where
       → Serves code 0 s v g
       → ⊥
 
--- what the instruction at place u asks
+-- what an instruction of this role at place u asks; an access stands behind the test of its address
+abbrev pub RoleFits : List Outline → ℕ → Role → Type 0
+RoleFits code u (role.Indirect c) = Chained code u c
+RoleFits code u (role.StartArg t) = InStart code u 1
+RoleFits code u (role.StartFn t f) = InStart code u 2 × IsFresh code u f
+RoleFits code u (role.Load p) = Behind code u (role.Touch p)
+RoleFits code u (role.Store p) = Behind code u (role.Touch p)
+RoleFits code u (role.Lock p) = Behind code u (role.Touch p)
+RoleFits code u _ = Unit {0}
+
 pub record IsOrderedAt (code : List Outline) (u : ℕ) (i : Outline) : Type 0 where
   pub served : (r : ℕ) → IsAmong i.used r → Served code u r
-  pub chained : (c : ℕ) → i.role ≡ role.Indirect c → Chained code u c
-  pub argument : (t : ℕ) → i.role ≡ role.StartArg t → InStart code u 1
-  pub function : (t f : ℕ) → i.role ≡ role.StartFn t f → InStart code u 2
-  pub fresh : (t f : ℕ) → i.role ≡ role.StartFn t f → IsFresh code u f
-  -- an access stands behind the test of its address
-  pub touched : (p : ℕ) → accessed i.role ≡ Some p → Behind code u (role.Touch p)
+  pub fits : RoleFits code u i.role
 
 -- ---- bodies
 
@@ -94,19 +98,22 @@ pub record IsOrdered (code : List Outline) : Type 0 where
   pub each : (u : ℕ) (i : Outline) → Stands code 0 u i → IsOrderedAt code u i
 
 -- a frame is entered first and nowhere else, and left directly before each return and nowhere else
-pub record IsFramedAt (code : List Outline) (u : ℕ) (i : Outline) : Type 0 where
-  pub entered : i.role ≡ role.Enter → u ≡ 0
-  pub left : i.role ≡ role.Return → Behind code u role.Leave
-  pub left_only : i.role ≡ role.Leave → HasRole code 0 (suc u) role.Return
+abbrev pub FrameFits : List Outline → ℕ → Role → Type 0
+FrameFits code u role.Enter = u ≡ 0
+FrameFits code u role.Return = Behind code u role.Leave
+FrameFits code u role.Leave = HasRole code 0 (suc u) role.Return
+FrameFits code u _ = Unit {0}
 
 pub record IsFramed (code : List Outline) : Type 0 where
   pub entered : HasRole code 0 0 role.Enter
   pub entry_unreached : IsUnreached code 0 0
-  pub each : (u : ℕ) (i : Outline) → Stands code 0 u i → IsFramedAt code u i
+  pub each : (u : ℕ) (i : Outline) → Stands code 0 u i → FrameFits code u i.role
 
 -- without a frame nothing is entered or left
+abbrev pub IsOutsideFrames : Role → Type 0
+IsOutsideFrames role.Enter = ⊥
+IsOutsideFrames role.Leave = ⊥
+IsOutsideFrames _ = Unit {0}
+
 abbrev pub IsFrameless : List Outline → Type 0
-IsFrameless code =
-    (u : ℕ) (i : Outline)
-    → Stands code 0 u i
-    → (i.role ≢ role.Enter) × (i.role ≢ role.Leave)
+IsFrameless code = (u : ℕ) (i : Outline) → Stands code 0 u i → IsOutsideFrames i.role

@@ -1,8 +1,7 @@
 -- What control flow sees of an instruction, without types. Programs and the code that is made of them have outlines, and
 -- the rules of Flow, Order and SafeLocal are stated over them.
-use Rattle.std.specs.Prelude.{ℕ, List, Option, Some, None}
+use Rattle.std.specs.Prelude.{ℕ, List, Option}
 use Rattle.core_ir.specs.declared.role.Role.{Role}
-use Rattle.core_ir.specs.declared.role.Role.TheVariants as role
 
 pub record Outline : Type 0 where
   pub role : Role
@@ -14,10 +13,3 @@ pub record Outline : Type 0 where
   pub slot : Option ℕ
   -- the place to which it may jump
   pub target : Option ℕ
-
--- the register with the address of an access
-abbrev pub accessed : Role → Option ℕ
-accessed (role.Load p) = Some p
-accessed (role.Store p) = Some p
-accessed (role.Lock p) = Some p
-accessed _ = None

@@ -36,6 +36,12 @@ is_binary _ = true
 abbrev pub HasArguments : FnTy → List ℕ → Type 0
 HasArguments f args = length args ≡ length (out-FnTy f).params
 
+-- there is such a function, with one parameter for each argument
+pub record CanCall (p : Program) (g : ℕ) (args : List ℕ) : Type 0 where
+  pub callee : Function
+  pub there : slice_get p.functions g ≡ Some callee
+  pub arguments : HasArguments callee.ty args
+
 -- the structs that it names are of the table
 abbrev pub TypeFits : List StructDef → Ty → Type 0
 TypeFits defs t = IsTrue (names_below (length defs) t)
@@ -51,8 +57,7 @@ Fits p f (AddrF d g) = g < length p.functions
 Fits p f (Binary d o a b) = IsTrue (is_binary o)
 Fits p f (Unary d o a) = IsTrue (is_unary o)
 Fits p f (Cast d a from to) = IsTrue (is_scalar from) × IsTrue (is_scalar to)
-Fits p f (Call g args s) =
-    (callee : Function) × (slice_get p.functions g ≡ Some callee) × HasArguments callee.ty args
+Fits p f (Call g args s) = CanCall p g args
 Fits p f (CallInd c args t s) = HasArguments t args × FunctionTypeFits p.structs t
 Fits p f _ = Unit {0}
 
@@ -104,8 +109,8 @@ abbrev pub most_frame_units : ℕ
 most_frame_units = 16384
 
 -- a frame stands where there are locals
-abbrev pub FrameFits : Function → Type 0
-FrameFits f =
+abbrev pub HasFrame : Function → Type 0
+HasFrame f =
     ((f.locals ≢ []) × IsFramed (map outline_of f.body))
     ⊎ ((f.locals ≡ []) × IsFrameless (map outline_of f.body))
 
@@ -121,7 +126,7 @@ pub record IsValidFunction (p : Program) (f : Function) : Type 0 where
   pub locals_lie : LocalsLie p.structs 0 f.locals
   pub in_range : All (IsInRange p f) f.body
   pub ordered : IsOrdered (map outline_of f.body)
-  pub framed : FrameFits f
+  pub framed : HasFrame f
   pub touched : TouchesFit p.structs f.body
 
 -- ---- programs

@@ -1,10 +1,16 @@
 //! Core: the instructions that programs consist of, and what makes a program valid.
 #![tactic(auto)]
 
+mod frame;
 mod instr;
+mod instr_outline;
+mod jumps;
 mod operator;
+mod order;
 mod outline;
 mod program;
+mod range;
+mod registers;
 mod role;
 
 pub use instr::{Arguments, Instr, InstrList};

@@ -1,5 +1,7 @@
 //! What an instruction is to the rules on order.
 
+ghost use Rattle.std.specs.Prelude.{◌≡◌, ◌↔◌, Some, IsTrue};
+
 /// What an instruction is to the rules on the order of instructions, and to the analysis of frame locals.
 #[derive(Clone, Copy, Debug, PartialEq, Eq)]
 pub enum Role {
@@ -33,4 +35,25 @@ pub enum Role {
     Fork,
     StartArg { t: u32 },
     StartFn { t: u32, f: u32 },
+}
+
+/// Whether there is an instruction, and it enters a frame.
+pub(crate) fn is_enter(role: Option<Role>) -> bool
+    ensures { IsTrue result ↔ (role ≡ Some Role.Enter) }
+{
+    matches!(role, Some(Role::Enter))
+}
+
+/// Whether there is an instruction, and it leaves a frame.
+pub(crate) fn is_leave(role: Option<Role>) -> bool
+    ensures { IsTrue result ↔ (role ≡ Some Role.Leave) }
+{
+    matches!(role, Some(Role::Leave))
+}
+
+/// Whether there is an instruction, and it returns.
+pub(crate) fn is_return(role: Option<Role>) -> bool
+    ensures { IsTrue result ↔ (role ≡ Some Role.Return) }
+{
+    matches!(role, Some(Role::Return))
 }
