@@ -15,11 +15,11 @@ use Rattle.core_ir.proofs.Serving.{one_role, one_server, serves_from, serves_las
 
 -- ---- what stands at a place
 
-some_of_map : {A B : Type 0} (f : A → B) (o : Option A) (b : B) → option_map f o ≡ Some b → (a : A) × (o ≡ Some a) × (f a ≡ b)
+pub some_of_map : {A B : Type 0} (f : A → B) (o : Option A) (b : B) → option_map f o ≡ Some b → (a : A) × (o ≡ Some a) × (f a ≡ b)
 some_of_map f None b e = absurd (cc)
 some_of_map f (Some a) b e = (a, refl, same_Some (f a) b e)
 
-some_of_then : {A B : Type 0} (f : A → Option B) (o : Option A) (b : B) → option_and_then f o ≡ Some b → (a : A) × (o ≡ Some a) × (f a ≡ Some b)
+pub some_of_then : {A B : Type 0} (f : A → Option B) (o : Option A) (b : B) → option_and_then f o ≡ Some b → (a : A) × (o ≡ Some a) × (f a ≡ Some b)
 some_of_then f None b e = absurd (cc)
 some_of_then f (Some a) b e = (a, refl, e)
 

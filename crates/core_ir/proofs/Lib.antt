@@ -8,3 +8,5 @@ mod Deciding
 mod Starts
 mod Ends
 mod EachPlace
+mod Searching
+mod PartSearch

@@ -1,6 +1,7 @@
 //! Core: the instructions that programs consist of, and what makes a program valid.
 #![tactic(auto)]
 
+mod found;
 mod frame;
 mod instr;
 mod instr_outline;
@@ -8,10 +9,12 @@ mod jumps;
 mod operator;
 mod order;
 mod outline;
+mod parts;
 mod program;
 mod range;
 mod registers;
 mod role;
+mod touch;
 
 pub use instr::{Arguments, Instr, InstrList};
 pub use operator::Operator;
