@@ -1,16 +1,16 @@
 -- The clauses on the order of a body, by what the tables say.
-use Rattle.std.proofs.Common.{◌≡◌, ◌≢◌, ◌∙◌, ◌⊎◌, ◌↔◌, inl, inr, ℕ, zero, suc, ◌+◌, ◌<◌, ◌≤◌, List, [], ◌∷◌, Option, Some, None, IfSome, slice_get, refl, sym, ap, subst, arith}
+use Rattle.std.proofs.Common.{◌≡◌, ◌∙◌, inl, inr, ℕ, zero, suc, ◌<◌, ◌≤◌, List, [], ◌∷◌, Option, Some, None, IfSome, slice_get, refl, sym, ap, subst, arith}
 use Rattle.std.specs.Option.{option_and_then, option_map}
 use Rattle.std.proofs.lemmas.Bool.{cases_eq, cases_lt}
 use Rattle.std.proofs.lemmas.Option.{same_Some}
 use Rattle.core_ir.specs.declared.role.Role.{Role}
 use Rattle.core_ir.specs.declared.role.Role.TheVariants as role
 use Rattle.core_ir.specs.Outline.{Outline}
-use Rattle.core_ir.specs.Flow.{Chain, HasRole, IsAmong, IsKept, Serves, Stands, Unbroken}
+use Rattle.core_ir.specs.Flow.{Chain, HasRole, IsAmong, IsKept, Stands, Unbroken}
 use Rattle.core_ir.specs.Order.{Chained, Served}
 use Rattle.core_ir.specs.inner.Found.{defined_in, role_in}
-use Rattle.core_ir.specs.inner.Registers.{AreKnown, Defines, IsLast, entry}
-use Rattle.core_ir.proofs.Places.{got, one, stands}
+use Rattle.core_ir.specs.inner.Registers.{Defines, IsLast}
+use Rattle.core_ir.proofs.Places.{got, stands}
 use Rattle.core_ir.proofs.Serving.{one_role, one_server, serves_from, serves_last}
 
 -- ---- what stands at a place
@@ -26,14 +26,14 @@ some_of_then f (Some a) b e = (a, refl, e)
 module _ (code : List Outline) where
   pub role_in_has : (k : ℕ) (r : Role) → role_in code k ≡ Some r → HasRole code 0 k r
   role_in_has k r e = let s = some_of_map (λ (i : Outline). i.role) (slice_get code k) r e in
-    record { instruction = s.0; there = stands code k s.0 s.1; is = s.2 }
+      record { instruction = s.0; there = stands code k s.0 s.1; is = s.2 }
 
   pub has_role_in : (k : ℕ) (r : Role) → HasRole code 0 k r → role_in code k ≡ Some r
   has_role_in k r has = ap (λ o. option_map (λ (i : Outline). i.role) o) (got has.there) ∙ ap Some has.is
 
   pub defined_in_defines : (k r : ℕ) → defined_in code k ≡ Some r → Defines code r k
   defined_in_defines k r e = let s = some_of_then (λ (i : Outline). i.defined) (slice_get code k) r e in
-    record { by = s.0; there = stands code k s.0 s.1; defines = s.2 }
+      record { by = s.0; there = stands code k s.0 s.1; defines = s.2 }
 
   pub defines_in : (k r : ℕ) (i : Outline) → Stands code 0 k i → i.defined ≡ Some r → defined_in code k ≡ Some r
   defines_in k r i there e = ap (λ o. option_and_then (λ (i : Outline). i.defined) o) (got there) ∙ e
@@ -71,9 +71,9 @@ module _ (code : List Outline) (first u p : ℕ) (load : HasRole code 0 first (r
   before_of : (o : Option ℕ) → IsLast (Defines code p) u o → IsKept code 0 first u p → IfSome o (λ s. s < first)
   before_of None last kept = tt
   before_of (Some s) last kept = elim (cases_lt s first) [
-      inl low ↦ low
+    | inl low ↦ low
     | inr high ↦ absurd (kept s last.1.by last.1.there high (omega (arith, last.0)) last.1.defines)
-    ]
+  ]
 
   pub kept_before : (o : Option ℕ) → IsLast (Defines code p) u o → ((q : ℕ) → HasRole code 0 first (role.Load q) → IsKept code 0 first u q) → IfSome o (λ s. s < first)
   kept_before o last kept = before_of o last (kept p load)
@@ -89,8 +89,8 @@ module _ (code : List Outline) (first u p : ℕ) (load : HasRole code 0 first (r
   kept_from o last before here q has j i there low high defines =
       let defines_p : i.defined ≡ Some p = defines ∙ ap Some (same_register q has) in
       elim (cases_eq j u) [
-        inl e ↦ here (defines_in code u p i (subst (λ x. Stands code 0 x i) e there) defines_p)
-      | inr ne ↦ not_between o last before j low (omega arith) (record { by = i; there = there; defines = defines_p })
+        | inl e ↦ here (defines_in code u p i (subst (λ x. Stands code 0 x i) e there) defines_p)
+        | inr ne ↦ not_between o last before j low (omega arith) (record { by = i; there = there; defines = defines_p })
       ]
 
 module _ (code : List Outline) (u c first : ℕ) (found : (k : ℕ) → Chain code 0 u c k → first ≡ k) where

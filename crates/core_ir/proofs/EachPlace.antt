@@ -15,11 +15,11 @@ module _ {A : Type 0} (outline : A → Outline) (code : List A) (k : ℕ) (x : A
       → ((u : ℕ) (i : Outline) → u < k → Stands (map outline code) 0 u i → P u i)
       → (u : ℕ) (i : Outline) → u < k + 1 → Stands (map outline code) 0 u i → P u i
   each_more P now before u i low there = elim (cases_eq u k) [
-      inl e ↦
+    | inl e ↦
         let same = one (subst (λ n. Stands (map outline code) 0 n i) e there) here in
         subst (λ n. P n i) (sym e) (subst (λ o. P k o) (sym same) now)
     | inr ne ↦ before u i (omega arith) there
-    ]
+  ]
 
 pub each_all : {A : Type 0} (outline : A → Outline) (code : List A) (k : ℕ) → length code ≤ k → (P : ℕ → Outline → Type 0)
     → ((u : ℕ) (i : Outline) → u < k → Stands (map outline code) 0 u i → P u i)

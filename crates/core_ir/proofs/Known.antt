@@ -1,9 +1,8 @@
 -- What is known of each register, one instruction on.
-use Rattle.std.proofs.Common.{◌≡◌, ◌∙◌, ◌⊎◌, inl, inr, ℕ, ◌+◌, ◌<◌, ◌≤◌, List, Option, Some, None, refl, sym, ap, subst, arith}
+use Rattle.std.proofs.Common.{◌≡◌, ◌∙◌, inl, inr, ℕ, ◌+◌, ◌<◌, ◌≤◌, List, Some, None, refl, sym, ap, subst, arith}
 use Rattle.std.proofs.lemmas.Bool.{cases_eq}
 use Rattle.std.proofs.lemmas.Option.{same_Some}
 use Rattle.core_ir.specs.declared.registers.Registers.{Registers}
-use Rattle.core_ir.specs.declared.role.Role.{Role}
 use Rattle.core_ir.specs.declared.role.Role.TheVariants as role
 use Rattle.core_ir.specs.Outline.{Outline}
 use Rattle.core_ir.specs.Flow.{Chain, HasRole, Stands}
@@ -40,22 +39,22 @@ module _ (code : List Outline) (u : ℕ) (i : Outline) (here : Stands code 0 u i
       let no : (r : ℕ) → (r ≡ d → ⊥) → Defines code r u → ⊥ = λ r ne e. ne (same_Some r d (sym (defines_one code here e) ∙ defines)) in
       record {
         last = λ r. elim (cases_eq r d) [
-          inl e ↦ last_now (Defines code r) u _ (ap (λ x. entry new.last x) e ∙ last.there) (subst (λ x. Defines code x u) (sym e) now)
-        | inr ne ↦ last_kept (Defines code r) u _ _ (last.elsewhere r ne) (known.last r) (no r ne)
+          | inl e ↦ last_now (Defines code r) u _ (ap (λ x. entry new.last x) e ∙ last.there) (subst (λ x. Defines code x u) (sym e) now)
+          | inr ne ↦ last_kept (Defines code r) u _ _ (last.elsewhere r ne) (known.last r) (no r ne)
         ];
         few = λ r s is. elim (cases_eq r d) [
-          inl e ↦ omega arith
-        | inr ne ↦ known.few r s (sym (last.elsewhere r ne) ∙ is)
+          | inl e ↦ omega arith
+          | inr ne ↦ known.few r s (sym (last.elsewhere r ne) ∙ is)
         ];
         chain = λ r k c. elim (cases_eq r d) [
-          inl e ↦ ap (λ x. entry new.chain x) e ∙ chain.there ∙ linked_from code u old.chain known.chain i.role k
-            (chain_is_now code u d k i.role now here_has (subst (λ x. Chain code 0 (u + 1) x k) e c))
-        | inr ne ↦ chain.elsewhere r ne ∙ known.chain r k (chain_less code u r k (no r ne) c)
+          | inl e ↦ ap (λ x. entry new.chain x) e ∙ chain.there ∙ linked_from code u old.chain known.chain i.role k
+              (chain_is_now code u d k i.role now here_has (subst (λ x. Chain code 0 (u + 1) x k) e c))
+          | inr ne ↦ chain.elsewhere r ne ∙ known.chain r k (chain_less code u r k (no r ne) c)
         ];
         chained = λ r k is. elim (cases_eq r d) [
-          inl e ↦ subst (λ x. Chain code 0 (u + 1) x k) (sym e) (chain_now code u d k i.role now here_has
-            (linked_to code u old.chain known.chained i.role k (sym (ap (λ x. entry new.chain x) e ∙ chain.there) ∙ is)))
-        | inr ne ↦ chain_more code u r k (no r ne) (known.chained r k (sym (chain.elsewhere r ne) ∙ is))
+          | inl e ↦ subst (λ x. Chain code 0 (u + 1) x k) (sym e) (chain_now code u d k i.role now here_has
+              (linked_to code u old.chain known.chained i.role k (sym (ap (λ x. entry new.chain x) e ∙ chain.there) ∙ is)))
+          | inr ne ↦ chain_more code u r k (no r ne) (known.chained r k (sym (chain.elsewhere r ne) ∙ is))
         ];
       }
 
@@ -65,7 +64,7 @@ module _ (code : List Outline) (u : ℕ) (i : Outline) (here : Stands code 0 u i
   pub started_same : (old new : Registers) → AreKnown code u old → new.started ≡ old.started → AreDefined code (u + 1) new → ((t f : ℕ) → i.role ≡ role.StartFn t f → 1024 ≤ f) → AreKnown code (u + 1) new
   started_same old new known same are none = known_from new are
       (λ r low. last_kept (StartsWith code r) u _ _ (ap (λ x. entry x r) same) (known.started r low)
-        (λ s. let e : i.role ≡ role.StartFn s.thread r = ap (λ x. x.role) (one here s.there.there) ∙ s.there.is in absurd (omega (arith, none s.thread r e))))
+      (λ s. let e : i.role ≡ role.StartFn s.thread r = ap (λ x. x.role) (one here s.there.there) ∙ s.there.is in absurd (omega (arith, none s.thread r e))))
 
   pub started_more : (old mid new : Registers) (t f : ℕ) → AreKnown code u old → mid.started ≡ old.started → AreDefined code (u + 1) mid → i.role ≡ role.StartFn t f → IsEntered mid.started f (Some u) new.started → new.last ≡ mid.last → new.chain ≡ mid.chain → AreKnown code (u + 1) new
   started_more old mid new t f known same are is entered last chain = record {
@@ -74,9 +73,9 @@ module _ (code : List Outline) (u : ℕ) (i : Outline) (here : Stands code 0 u i
     chain = subst (λ x. (r k : ℕ) → Chain code 0 (u + 1) r k → entry x r ≡ Some k) (sym chain) are.chain;
     chained = subst (λ x. (r k : ℕ) → entry x r ≡ Some k → Chain code 0 (u + 1) r k) (sym chain) are.chained;
     started = λ r low. elim (cases_eq r f) [
-      inl e ↦ last_now (StartsWith code r) u _ (ap (λ x. entry new.started x) e ∙ entered.there)
-        (record { thread = t; there = record { instruction = i; there = here; is = is ∙ ap (λ x. role.StartFn t x) (sym e) } })
-    | inr ne ↦ last_kept (StartsWith code r) u _ _ (entered.elsewhere r ne ∙ ap (λ x. entry x r) same) (known.started r low)
-        (λ s. let e : role.StartFn s.thread r ≡ role.StartFn t f = sym (ap (λ x. x.role) (one here s.there.there) ∙ s.there.is) ∙ is in absurd (ne (cc)))
+      | inl e ↦ last_now (StartsWith code r) u _ (ap (λ x. entry new.started x) e ∙ entered.there)
+          (record { thread = t; there = record { instruction = i; there = here; is = is ∙ ap (λ x. role.StartFn t x) (sym e) } })
+      | inr ne ↦ last_kept (StartsWith code r) u _ _ (entered.elsewhere r ne ∙ ap (λ x. entry x r) same) (known.started r low)
+          (λ s. let e : role.StartFn s.thread r ≡ role.StartFn t f = sym (ap (λ x. x.role) (one here s.there.there) ∙ s.there.is) ∙ is in absurd (ne (cc)))
     ];
   }

@@ -10,3 +10,4 @@ mod Ends
 mod EachPlace
 mod Searching
 mod PartSearch
+mod InRange

@@ -1,9 +1,9 @@
 -- The search for a part: what it finds is a part, and what it doesn't find is none.
-use Rattle.std.proofs.Common.{◌≡◌, ◌∙◌, ◌⊎◌, inl, inr, ℕ, ◌+◌, ◌<◌, ◌≤◌, true, false, Bool, List, [], ◌∷◌, length, count_by, slice_get, slice_index, Option, Some, None, refl, sym, ap, subst, arith}
-use Rattle.std.specs.List.{All, Contains}
+use Rattle.std.proofs.Common.{◌≡◌, ◌∙◌, ◌⊎◌, inl, inr, ℕ, ◌+◌, ◌<◌, ◌≤◌, Bool, List, length, slice_get, slice_index, Some, None, refl, sym, ap, subst, arith}
+use Rattle.std.specs.List.{All}
 use Rattle.std.proofs.lemmas.Bool.{cases_eq}
 use Rattle.std.proofs.lemmas.Option.{slice_get_within}
-use Rattle.std.proofs.lemmas.List.Elements.{All-weaker, All-contains}
+use Rattle.std.proofs.lemmas.List.Elements.{All-weaker}
 use Rattle.std.proofs.lemmas.List.Sums.{count_by-le-length}
 use Rattle.c_types.specs.declared.structs.Member.{Member}
 use Rattle.c_types.specs.declared.structs.StructDef.{StructDef}
@@ -70,8 +70,8 @@ module _ (defs : List StructDef) where
       are = found;
       parts = λ s i y h. elim (others s i) [ inl e ↦ are.parts s e y h | inr deeper ↦ are.parts number included y (deeper y h) ];
       scanned = λ j before. elim (cases_eq j k) [
-        inl e ↦ subst (λ n. IsScanned defs new x n) (is ∙ sym (ap (λ n. slice_index new.numbers n) e ∙ grows.same k low)) scanned
-      | inr ne ↦ subst (λ n. IsScanned defs new x n) (sym (grows.same j (omega arith))) (scanned_kept old new (slice_index old.numbers j) grows (are.scanned j (omega arith)))
+        | inl e ↦ subst (λ n. IsScanned defs new x n) (is ∙ sym (ap (λ n. slice_index new.numbers n) e ∙ grows.same k low)) scanned
+        | inr ne ↦ subst (λ n. IsScanned defs new x n) (sym (grows.same j (omega arith))) (scanned_kept old new (slice_index old.numbers j) grows (are.scanned j (omega arith)))
       ];
       start = clean_kept old new x w grows are.start;
     }

@@ -1,11 +1,9 @@
 -- What stands at a place of a body.
-use Rattle.std.proofs.Common.{◌≡◌, ◌∙◌, ℕ, ◌+◌, ◌-◌, ◌<◌, ◌≤◌, List, length, map, Option, Some, None, slice_get, get_or, refl, sym, ap, subst, arith}
+use Rattle.std.proofs.Common.{◌≡◌, ◌∙◌, ℕ, ◌-◌, ◌<◌, List, length, map, Some, slice_get, get_or, refl, sym, ap, arith}
 use Rattle.std.proofs.lemmas.Option.{same_Some, slice_get-map, slice_get_read, slice_get_within}
 use Rattle.std.specs.Option.{option_map}
-use Rattle.core_ir.specs.declared.role.Role.{Role}
 use Rattle.core_ir.specs.Outline.{Outline}
-use Rattle.core_ir.specs.Flow.{HasRole, Jumps, Stands}
-use Rattle.core_ir.specs.inner.Found.{defined_in, role_in}
+use Rattle.core_ir.specs.Flow.{Jumps, Stands}
 
 from_start : (k : ℕ) → k - 0 ≡ k
 from_start k = omega arith

@@ -1,5 +1,5 @@
 -- Structs that are found one after another, and the layers of types.
-use Rattle.std.proofs.Common.{◌≡◌, ◌∙◌, ◌⊎◌, inl, inr, ℕ, ◌+◌, ◌<◌, ◌≤◌, Bool, true, false, cond, List, length, replicate, count_by, get_or, slice_index, slice_index_or, slice_set, refl, sym, ap, subst, arith}
+use Rattle.std.proofs.Common.{◌≡◌, ◌∙◌, ◌⊎◌, inl, inr, ℕ, ◌+◌, ◌<◌, Bool, true, false, cond, List, length, replicate, count_by, get_or, slice_index, slice_index_or, slice_set, refl, sym, ap, subst, arith}
 use Rattle.std.proofs.lemmas.Bool.{both_ways, cases_eq}
 use Rattle.std.proofs.lemmas.List.{get_or-replicate, get_or-set_other, get_or-set_same, length-replicate, length-set}
 use Rattle.std.proofs.lemmas.List.Sums.{count_by-le-length, sum_by-set}
@@ -39,9 +39,9 @@ module _ (old : Found) (are : AreFound old) (s : ℕ) (low : s < 1024) (is : sli
   still_included : (t : ℕ) → Includes old t → Includes new_found t
   unfolding new_found
   still_included t i = elim (cases_eq t s) [
-      inl e ↦ absurd (both_ways _ is (subst (λ x. slice_index_or old.is_found x false ≡ true) e i.is))
+    | inl e ↦ absurd (both_ways _ is (subst (λ x. slice_index_or old.is_found x false ≡ true) e i.is))
     | inr ne ↦ record { low = i.low; is = get_or-set_other old.is_found s t true false ne ∙ i.is }
-    ]
+  ]
 
   was_included : (t : ℕ) → (t ≡ s → ⊥) → Includes new_found t → Includes old t
   unfolding new_found
@@ -60,12 +60,12 @@ module _ (old : Found) (are : AreFound old) (s : ℕ) (low : s < 1024) (is : sli
     room = length-set old.numbers old.count s ∙ are.room;
     counted = ap (λ n. n + 1) are.counted ∙ sym (counted_more old.is_found s (omega (arith, are.marks)) is);
     listed = λ k before. elim (cases_eq k old.count) [
-      inl e ↦ subst (λ x. Includes new_found x) (sym (ap (λ x. slice_index (slice_set old.numbers old.count s) x) e ∙ last_number)) now_included
-    | inr ne ↦ subst (λ x. Includes new_found x) (sym (other_number k (omega arith))) (still_included _ (are.listed k (omega arith)))
+      | inl e ↦ subst (λ x. Includes new_found x) (sym (ap (λ x. slice_index (slice_set old.numbers old.count s) x) e ∙ last_number)) now_included
+      | inr ne ↦ subst (λ x. Includes new_found x) (sym (other_number k (omega arith))) (still_included _ (are.listed k (omega arith)))
     ];
     at = λ t i. elim (cases_eq t s) [
-      inl e ↦ (old.count, omega arith, last_number ∙ sym e)
-    | inr ne ↦ let k = are.at t (was_included t ne i) in (k.0, omega (arith, k.1), other_number k.0 k.1 ∙ k.2)
+      | inl e ↦ (old.count, omega arith, last_number ∙ sym e)
+      | inr ne ↦ let k = are.at t (was_included t ne i) in (k.0, omega (arith, k.1), other_number k.0 k.1 ∙ k.2)
     ];
   }
 
@@ -105,15 +105,15 @@ same_struct s t e =
 
 pub layer_of_array : (t u x : Ty) (n : ℕ) → t ≡ ty.Array u n → (t ≡ x → ⊥) → HasLayer t x → HasLayer u x
 layer_of_array t u x n is other h = elim (layer_cases h) [
-    inl e ↦ absurd (other e)
+  | inl e ↦ absurd (other e)
   | inr (v, m, e, inner) ↦ subst (λ w. HasLayer w x) (same_array v u m n (sym e ∙ is)) inner
-  ]
+]
 
 pub layer_in_array : (t u x : Ty) (n : ℕ) → t ≡ ty.Array u n → HasLayer u x → HasLayer t x
 layer_in_array t u x n is h = subst (λ w. HasLayer w x) (sym is) (inside u x n h)
 
 pub layer_of_no_array : (t x : Ty) → ((u : Ty) (n : ℕ) → t ≡ ty.Array u n → ⊥) → HasLayer t x → t ≡ x
 layer_of_no_array t x none h = elim (layer_cases h) [
-    inl e ↦ e
+  | inl e ↦ e
   | inr (v, m, e, inner) ↦ absurd (none v m e)
-  ]
+]

@@ -1,5 +1,5 @@
 -- What serves a register, and its chain, one instruction on.
-use Rattle.std.proofs.Common.{◌≡◌, ◌∙◌, ◌⊎◌, inl, inr, ℕ, ◌+◌, ◌<◌, ◌≤◌, List, Option, Some, None, refl, sym, ap, subst, arith}
+use Rattle.std.proofs.Common.{◌≡◌, ◌∙◌, inl, inr, ℕ, ◌+◌, ◌<◌, List, Option, Some, None, refl, sym, ap, subst, arith}
 use Rattle.std.proofs.lemmas.Bool.{cases_eq, cases_lt}
 use Rattle.std.proofs.lemmas.Option.{same_Some}
 use Rattle.core_ir.specs.declared.role.Role.{Role}
@@ -23,17 +23,20 @@ last_now P u (Some s) is p =
 
 pub last_kept : (P : ℕ → Type 0) (u : ℕ) (o n : Option ℕ) → n ≡ o → IsLast P u o → (P u → ⊥) → IsLast P (u + 1) n
 last_kept P u None None is last none = λ k before p. elim (cases_eq k u) [
-    inl e ↦ none (subst P e p)
+  | inl e ↦ none (subst P e p)
   | inr ne ↦ last k (omega arith) p
-  ]
+]
 last_kept P u None (Some s) is last none = absurd (cc)
 last_kept P u (Some s) None is last none = absurd (cc)
 last_kept P u (Some s) (Some t) is last none =
-    let e : s ≡ t = same_Some s t (sym is) in
-    (omega (arith, last.0), subst P e last.1, λ k behind before p. elim (cases_eq k u) [
-        inl same ↦ none (subst P same p)
-      | inr ne ↦ last.2 k (omega arith) (omega arith) p
-      ])
+    let e : s ≡ t = same_Some s t (sym is) in (
+      omega (arith, last.0),
+      subst P e last.1,
+      λ k behind before p. elim (cases_eq k u) [
+        | inl same ↦ none (subst P same p)
+        | inr ne ↦ last.2 k (omega arith) (omega arith) p
+      ],
+    )
 
 -- ---- servers
 
@@ -53,24 +56,24 @@ module _ (code : List Outline) where
   pub serves_last : (s u r : ℕ) (o : Option ℕ) → IsLast (Defines code r) u o → Serves code 0 s u r → o ≡ Some s
   serves_last s u r None last serves = absurd (last s serves.before (record { by = serves.by; there = serves.there; defines = serves.defines }))
   serves_last s u r (Some t) last serves = elim (cases_eq t s) [
-      inl e ↦ ap Some e
+    | inl e ↦ ap Some e
     | inr ne ↦ elim (cases_lt t s) [
-        inl low ↦ absurd (last.2 s low serves.before (record { by = serves.by; there = serves.there; defines = serves.defines }))
+      | inl low ↦ absurd (last.2 s low serves.before (record { by = serves.by; there = serves.there; defines = serves.defines }))
       | inr high ↦ absurd (serves.nearest t last.1.by last.1.there (omega arith) last.0 last.1.defines)
-      ]
     ]
+  ]
 
   pub server_defines : (s u r : ℕ) → Serves code 0 s u r → Defines code r s
   server_defines s u r serves = record { by = serves.by; there = serves.there; defines = serves.defines }
 
   pub one_server : (s t u r : ℕ) → Serves code 0 s u r → Serves code 0 t u r → s ≡ t
   one_server s t u r a b = elim (cases_eq s t) [
-      inl e ↦ e
+    | inl e ↦ e
     | inr ne ↦ elim (cases_lt s t) [
-        inl low ↦ absurd (a.nearest t b.by b.there low b.before b.defines)
+      | inl low ↦ absurd (a.nearest t b.by b.there low b.before b.defines)
       | inr high ↦ absurd (b.nearest s a.by a.there (omega arith) a.before a.defines)
-      ]
     ]
+  ]
 
   module _ (u : ℕ) where
     pub serves_more : (s r : ℕ) → (Defines code r u → ⊥) → Serves code 0 s u r → Serves code 0 s (u + 1) r
@@ -80,8 +83,8 @@ module _ (code : List Outline) where
       defines = serves.defines;
       before = omega (arith, serves.before);
       nearest = λ k i there behind before defines. elim (cases_eq k u) [
-        inl e ↦ none (record { by = i; there = subst (λ x. Stands code 0 x i) e there; defines = defines })
-      | inr ne ↦ serves.nearest k i there behind (omega arith) defines
+        | inl e ↦ none (record { by = i; there = subst (λ x. Stands code 0 x i) e there; defines = defines })
+        | inr ne ↦ serves.nearest k i there behind (omega arith) defines
       ];
     }
 
@@ -91,8 +94,8 @@ module _ (code : List Outline) where
       there = serves.there;
       defines = serves.defines;
       before = elim (cases_eq s u) [
-        inl e ↦ absurd (none (subst (λ x. Defines code r x) e (server_defines s (u + 1) r serves)))
-      | inr ne ↦ omega (arith, serves.before)
+        | inl e ↦ absurd (none (subst (λ x. Defines code r x) e (server_defines s (u + 1) r serves)))
+        | inr ne ↦ omega (arith, serves.before)
       ];
       nearest = λ k i there behind before defines. serves.nearest k i there behind (omega arith) defines;
     }
@@ -106,7 +109,7 @@ module _ (code : List Outline) where
       nearest = λ k i there behind before defines. absurd (omega arith);
     }
 
--- ---- chains
+  -- ---- chains
 
   -- what a chain begins with
   pub record Link (u r k : ℕ) : Type 0 where

@@ -1,11 +1,11 @@
 -- Runs that start threads, and what stands directly before a place, by what the tables say.
-use Rattle.std.proofs.Common.{◌≡◌, ◌≢◌, ◌∙◌, ◌⊎◌, ◌↔◌, inl, inr, ℕ, zero, suc, ◌+◌, ◌-◌, ◌<◌, ◌≤◌, List, Option, Some, None, IfSome, refl, sym, ap, subst, arith}
-use Rattle.std.proofs.lemmas.Bool.{cases_eq, cases_lt}
+use Rattle.std.proofs.Common.{◌≡◌, ◌≢◌, ◌∙◌, inl, inr, ℕ, ◌+◌, ◌-◌, ◌<◌, ◌≤◌, List, Option, Some, None, IfSome, refl, sym, ap, subst, arith}
+use Rattle.std.proofs.lemmas.Bool.{cases_lt}
 use Rattle.std.proofs.lemmas.Option.{same_Some}
 use Rattle.core_ir.specs.declared.role.Role.{Role}
 use Rattle.core_ir.specs.declared.role.Role.TheVariants as role
 use Rattle.core_ir.specs.Outline.{Outline}
-use Rattle.core_ir.specs.Flow.{HasRole, IsUnreached, Serves, Stands}
+use Rattle.core_ir.specs.Flow.{HasRole, IsUnreached, Serves}
 use Rattle.core_ir.specs.Order.{Behind, InStart, IsFresh, IsStart}
 use Rattle.core_ir.specs.inner.Found.{AreStarting, defined_in, role_in}
 use Rattle.core_ir.specs.inner.Registers.{Defines, IsLast, StartsWith}
@@ -54,7 +54,7 @@ starting _ _ _ _ h = absurd h
 started : (a b c : Role) (o : Option ℕ) (t f : ℕ) → a ≡ role.Fork → b ≡ role.StartArg t → c ≡ role.StartFn t f → o ≡ Some t → AreStarting a b c o
 started a b c o t f ea eb ec eo =
     subst (λ x. AreStarting x b c o) (sym ea) (subst (λ x. AreStarting role.Fork x c o) (sym eb)
-      (subst (λ x. AreStarting role.Fork (role.StartArg t) x o) (sym ec) (subst (λ x. AreStarting role.Fork (role.StartArg t) (role.StartFn t f) x) (sym eo) (refl, refl))))
+    (subst (λ x. AreStarting role.Fork (role.StartArg t) x o) (sym ec) (subst (λ x. AreStarting role.Fork (role.StartArg t) (role.StartFn t f) x) (sym eo) (refl, refl))))
 
 module _ (code : List Outline) (k : ℕ) where
   pub start_from : (a b c : Role) → role_in code k ≡ Some a → role_in code (k + 1) ≡ Some b → role_in code (k + 2) ≡ Some c
@@ -62,29 +62,32 @@ module _ (code : List Outline) (k : ℕ) where
   start_from a b c ra rb rc are u v =
       let s = starting a b c (defined_in code k) are in
       let d = defined_in_defines code k s.t s.defined in
-      let fork = role_in_has code k role.Fork (ra ∙ ap Some s.first) in
-      (s.t, s.f, record {
-        number = record {
-          instruction = d.by;
-          there = d.there;
-          is = ap (λ (i : Outline). i.role) (one d.there fork.there) ∙ fork.is;
-          defines = d.defines;
-        };
-        argument = role_in_has code (k + 1) (role.StartArg s.t) (rb ∙ ap Some s.second);
-        function = role_in_has code (k + 2) (role.StartFn s.t s.f) (rc ∙ ap Some s.third);
-        argument_unreached = u;
-        function_unreached = v;
-      })
+      let fork = role_in_has code k role.Fork (ra ∙ ap Some s.first) in (
+        s.t,
+        s.f,
+        record {
+          number = record {
+            instruction = d.by;
+            there = d.there;
+            is = ap (λ (i : Outline). i.role) (one d.there fork.there) ∙ fork.is;
+            defines = d.defines;
+          };
+          argument = role_in_has code (k + 1) (role.StartArg s.t) (rb ∙ ap Some s.second);
+          function = role_in_has code (k + 2) (role.StartFn s.t s.f) (rc ∙ ap Some s.third);
+          argument_unreached = u;
+          function_unreached = v;
+        },
+      )
 
   pub start_roles : (a b c : Role) → role_in code k ≡ Some a → role_in code (k + 1) ≡ Some b → role_in code (k + 2) ≡ Some c
       → (t f : ℕ) → IsStart code k t f → AreStarting a b c (defined_in code k)
   start_roles a b c ra rb rc t f is =
       let fork : HasRole code 0 k role.Fork = record { instruction = is.number.instruction; there = is.number.there; is = is.number.is } in
       started a b c (defined_in code k) t f
-        (same_Some a role.Fork (sym ra ∙ has_role_in code k role.Fork fork))
-        (same_Some b (role.StartArg t) (sym rb ∙ has_role_in code (k + 1) (role.StartArg t) is.argument))
-        (same_Some c (role.StartFn t f) (sym rc ∙ has_role_in code (k + 2) (role.StartFn t f) is.function))
-        (defines_in code k t is.number.instruction is.number.there is.number.defines)
+      (same_Some a role.Fork (sym ra ∙ has_role_in code k role.Fork fork))
+      (same_Some b (role.StartArg t) (sym rb ∙ has_role_in code (k + 1) (role.StartArg t) is.argument))
+      (same_Some c (role.StartFn t f) (sym rc ∙ has_role_in code (k + 2) (role.StartFn t f) is.function))
+      (defines_in code k t is.number.instruction is.number.there is.number.defines)
 
 module _ (code : List Outline) (u behind : ℕ) where
   pub in_start_from : behind ≤ u → ((t f : ℕ) × IsStart code (u - behind) t f) → InStart code u behind
@@ -113,9 +116,9 @@ module _ (code : List Outline) (u f : ℕ) where
     fresh_from o starts none below = record {
       no_number = λ r serves has. none (subst (λ x. HasRole code 0 x role.Fork) (one_server code r s u f serves (serves_from code s u f last)) has);
       first_start = λ r v t g serves before has other.
-        let same : r ≡ s = one_server code r s u f serves (serves_from code s u f last) in
-        let register : g ≡ f = same_Some g f (sym other.defines ∙ ap (λ (i : Outline). i.defined) (one other.there serves.there) ∙ serves.defines) in
-        no_start o starts below v (omega (arith, other.before)) before (record { thread = t; there = subst (λ x. HasRole code 0 v (role.StartFn t x)) register has });
+          let same : r ≡ s = one_server code r s u f serves (serves_from code s u f last) in
+          let register : g ≡ f = same_Some g f (sym other.defines ∙ ap (λ (i : Outline). i.defined) (one other.there serves.there) ∙ serves.defines) in
+          no_start o starts below v (omega (arith, other.before)) before (record { thread = t; there = subst (λ x. HasRole code 0 v (role.StartFn t x)) register has });
     }
 
     pub fresh_number : IsFresh code u f → HasRole code 0 s role.Fork → ⊥
@@ -124,7 +127,7 @@ module _ (code : List Outline) (u f : ℕ) where
     pub fresh_below : (o : Option ℕ) → IsLast (StartsWith code f) u o → IsFresh code u f → IfSome o (λ v. v < s + 1)
     fresh_below None starts fresh = tt
     fresh_below (Some w) starts fresh = elim (cases_lt s w) [
-        inl after ↦
+      | inl after ↦
           let serves : Serves code 0 s w f = record {
             by = last.1.by;
             there = last.1.there;
@@ -134,4 +137,4 @@ module _ (code : List Outline) (u f : ℕ) where
           } in
           absurd (fresh.first_start s w starts.1.thread f (serves_from code s u f last) starts.0 starts.1.there serves)
       | inr low ↦ omega arith
-      ]
+    ]

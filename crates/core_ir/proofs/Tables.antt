@@ -1,5 +1,5 @@
 -- Tables by register.
-use Rattle.std.proofs.Common.{◌≡◌, ◌∙◌, ◌⊎◌, inl, inr, ℕ, zero, suc, ◌<◌, ◌≤◌, List, [], ◌∷◌, Option, Some, None, length, replicate, get_or, slice_get, slice_set, refl, sym, ap, arith}
+use Rattle.std.proofs.Common.{◌≡◌, ◌∙◌, inl, inr, ℕ, ◌<◌, ◌≤◌, List, Option, None, length, replicate, get_or, slice_set, sym, ap, arith}
 use Rattle.std.proofs.lemmas.Bool.{cases_lt}
 use Rattle.std.proofs.lemmas.List.{get_or-replicate, get_or-set_other, get_or-set_same, length-replicate, length-set}
 use Rattle.std.proofs.lemmas.Option.{slice_get-get_or, slice_get_past}
@@ -17,15 +17,15 @@ entry_past table r past = ap inner (slice_get_past table r past)
 
 pub entry_none : (n r : ℕ) → entry (replicate n None) r ≡ None
 entry_none n r = elim (cases_lt r n) [
-    inl low ↦ entry_at (replicate n None) r (omega (arith, length-replicate {A = Option ℕ} n None)) ∙ get_or-replicate n r None None low
+  | inl low ↦ entry_at (replicate n None) r (omega (arith, length-replicate {A = Option ℕ} n None)) ∙ get_or-replicate n r None None low
   | inr high ↦ entry_past (replicate n None) r (omega (arith, length-replicate {A = Option ℕ} n None))
-  ]
+]
 
 pub entered : (table : List (Option ℕ)) (at : ℕ) (o : Option ℕ) → at < length table → IsEntered table at o (slice_set table at o)
 entered table at o within = record {
   there = entry_at (slice_set table at o) at (omega (arith, length-set table at o)) ∙ get_or-set_same table at o None within;
   elsewhere = λ k ne. elim (cases_lt k (length table)) [
-    inl low ↦ entry_at (slice_set table at o) k (omega (arith, length-set table at o)) ∙ get_or-set_other table at k o None ne ∙ sym (entry_at table k low)
-  | inr high ↦ entry_past (slice_set table at o) k (omega (arith, length-set table at o)) ∙ sym (entry_past table k high)
+    | inl low ↦ entry_at (slice_set table at o) k (omega (arith, length-set table at o)) ∙ get_or-set_other table at k o None ne ∙ sym (entry_at table k low)
+    | inr high ↦ entry_past (slice_set table at o) k (omega (arith, length-set table at o)) ∙ sym (entry_past table k high)
   ];
 }

@@ -1,8 +1,8 @@
 -- What the tables by place say of jumps.
-use Rattle.std.proofs.Common.{◌≡◌, ◌⊎◌, ◌↔◌, inl, inr, ℕ, ◌+◌, ◌<◌, ◌≤◌, List, length, slice_index, arith}
+use Rattle.std.proofs.Common.{◌↔◌, inl, inr, ℕ, ◌+◌, ◌<◌, ◌≤◌, List, length, slice_index, arith}
 use Rattle.std.proofs.lemmas.Bool.{cases_lt}
 use Rattle.core_ir.specs.Outline.{Outline}
-use Rattle.core_ir.specs.Flow.{IsUnreached, Jumps as Jump, Unbroken}
+use Rattle.core_ir.specs.Flow.{IsUnreached, Unbroken}
 use Rattle.core_ir.specs.inner.Jumps.{AreGreatest, AreLeast, Begins, Reaches}
 use Rattle.core_ir.proofs.Places.{jump_within}
 
@@ -11,9 +11,9 @@ pub unreached : (code : List Outline) (least : List ℕ) → AreLeast code (leng
 unreached code least are l inside = (
   (λ none q j. let low : slice_index least l ≤ q = are.below q l j (jump_within j) in let in_code : q < length code = jump_within j in absurd (omega arith)),
   (λ none. elim (cases_lt (slice_index least l) (length code)) [
-    inl low ↦ absurd (none (slice_index least l) (are.from l inside low))
-  | inr high ↦ high
-  ])
+    | inl low ↦ absurd (none (slice_index least l) (are.from l inside low))
+    | inr high ↦ high
+  ]),
 )
 
 module _ (code : List Outline) (least greatest : List ℕ) (lows : AreLeast code (length code) least) (highs : AreGreatest code (length code) greatest) where
@@ -28,7 +28,7 @@ module _ (code : List Outline) (least greatest : List ℕ) (lows : AreLeast code
 
     pub reach_far : Unbroken code 0 s u → u ≤ e
     reach_far unbroken = elim (cases_lt e u) [
-        inl short ↦
+      | inl short ↦
           let low : slice_index least (e + 1) ≤ s = reach.last (omega arith) in
           let start : s ≤ e = reach.behind in
           let between = unbroken (slice_index least (e + 1)) (e + 1) (lows.from (e + 1) (omega arith) (omega arith)) (omega arith) (omega arith) in
@@ -38,7 +38,7 @@ module _ (code : List Outline) (least greatest : List ℕ) (lows : AreLeast code
 
     pub since_near : Unbroken code 0 s u → b ≤ s
     since_near unbroken = elim (cases_lt s b) [
-        inl above ↦
+      | inl above ↦
           let high : u ≤ slice_index greatest b = since.reached (omega arith) in
           let upto : b ≤ u = since.before in
           let between = unbroken (slice_index greatest b) b (highs.from b (omega arith) (omega arith)) above upto in

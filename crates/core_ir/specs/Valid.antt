@@ -108,6 +108,19 @@ most_parameters = 8
 abbrev pub most_frame_units : ℕ
 most_frame_units = 16384
 
+pub record IsWithinLimits (f : Function) : Type 0 where
+  pub parameters : length (out-FnTy f.ty).params ≤ most_parameters
+  pub parameters_have_slots : length (out-FnTy f.ty).params ≤ f.slots
+  pub instructions : length f.body ≤ most_instructions
+  pub registers : f.registers ≤ most_registers
+  pub slots : f.slots ≤ most_slots
+  pub frame_units : f.frame_units ≤ most_frame_units
+
+-- the frame is its locals, one behind the other
+pub record IsLaidOut (defs : List StructDef) (f : Function) : Type 0 where
+  pub locals_lie : LocalsLie defs 0 f.locals
+  pub frame_is_its_locals : f.frame_units ≡ local_units f.locals
+
 -- a frame stands where there are locals
 abbrev pub HasFrame : Function → Type 0
 HasFrame f =
@@ -115,15 +128,9 @@ HasFrame f =
     ⊎ ((f.locals ≡ []) × IsFrameless (map outline_of f.body))
 
 pub record IsValidFunction (p : Program) (f : Function) : Type 0 where
+  pub within_limits : IsWithinLimits f
   pub type_fits : FunctionTypeFits p.structs f.ty
-  pub parameters : length (out-FnTy f.ty).params ≤ most_parameters
-  pub parameters_have_slots : length (out-FnTy f.ty).params ≤ f.slots
-  pub instructions : length f.body ≤ most_instructions
-  pub registers : f.registers ≤ most_registers
-  pub slots : f.slots ≤ most_slots
-  pub frame_units : f.frame_units ≤ most_frame_units
-  pub frame_is_its_locals : f.frame_units ≡ local_units f.locals
-  pub locals_lie : LocalsLie p.structs 0 f.locals
+  pub laid_out : IsLaidOut p.structs f
   pub in_range : All (IsInRange p f) f.body
   pub ordered : IsOrdered (map outline_of f.body)
   pub framed : HasFrame f
@@ -147,11 +154,15 @@ pub record HasEntry (p : Program) : Type 0 where
   pub there : slice_get p.functions p.entry ≡ Some entry
   pub no_parameters : (out-FnTy entry.ty).params ≡ []
 
+-- globals follow one another, within their limit
+pub record HasGlobals (p : Program) : Type 0 where
+  pub lie : GlobalsLie p.structs first_address p.globals
+  pub few_units : global_units p.globals ≤ most_global_units
+
 pub record IsValid (p : Program) : Type 0 where
-  pub functions : length p.functions ≤ most_functions
+  pub few_functions : length p.functions ≤ most_functions
+  pub few_structs : length p.structs ≤ most_structs
+  pub structs : IsSound p.structs
   pub entry : HasEntry p
-  pub structs : length p.structs ≤ most_structs
-  pub structs_are_sound : IsSound p.structs
-  pub globals_lie : GlobalsLie p.structs first_address p.globals
-  pub global_units : global_units p.globals ≤ most_global_units
-  pub each_function : All (IsValidFunction p) p.functions
+  pub globals : HasGlobals p
+  pub functions : All (IsValidFunction p) p.functions

@@ -96,13 +96,7 @@ impl HasOutline for Instr {
     fn operand(&self, at: usize) -> u32 {
         match self {
             Instr::Call { args, .. } => args.as_slice()[at],
-            Instr::CallInd { c, args, .. } => {
-                if at == 0 {
-                    *c
-                } else {
-                    args.as_slice()[at - 1]
-                }
-            }
+            Instr::CallInd { c, args, .. } => { if at == 0 { *c } else { args.as_slice()[at - 1] } }
             Instr::Binary { a, b, .. } => either(at, *a, *b),
             Instr::PtrAdd { p, i, .. } => either(at, *p, *i),
             Instr::Store { p, a, .. } => either(at, *p, *a),

@@ -4,7 +4,7 @@ ghost use Rattle.std.specs.Prelude.{◌≡◌, ◌≢◌, ◌+◌, ◌<◌, ◌�
 ghost use Rattle.core_ir.specs.Outline.{Outline};
 ghost use Rattle.core_ir.specs.Flow.{HasRole, IsAmong, IsKept, IsUnreached, Stands};
 ghost use Rattle.core_ir.specs.Order.{Behind, Chained, EndsWith, InStart, IsFresh, IsOrdered, IsOrderedAt, IsStart, RoleFits, Served};
-ghost use Rattle.core_ir.specs.inner.Found.{AreStarting, defined_in, role_in};
+ghost use Rattle.core_ir.specs.inner.Found.{AreStarting, DefinesBelow, defined_in, role_in};
 ghost use Rattle.core_ir.specs.inner.Jumps.{AreOf};
 ghost use Rattle.core_ir.specs.inner.Registers.{AreKnown, Defines};
 
@@ -96,9 +96,7 @@ fn is_kept<I: HasOutline>(code: &[I], registers: &Registers, first: u32, place: 
         IsTrue result ↔ ((p : ℕ) → HasRole code 0 first (Role.Load p) → IsKept code 0 first place p) }
 {
     match role_at(code, first as usize) {
-        Some(Role::Load { p }) => {
-            is_below(registers.last(p), first) && !defines(code, place, p)
-        }
+        Some(Role::Load { p }) => { is_below(registers.last(p), first) && !defines(code, place, p) }
         _ => true,
     }
 }
@@ -147,9 +145,11 @@ fn is_start<I: HasOutline>(code: &[I], jumps: &Jumps, first: usize) -> bool
     requires few { first < 65536 }
     ensures { IsTrue result ↔ ((t f : ℕ) × IsStart (map I.outline code.now) first t f) }
 {
-    let (Some(number), Some(argument), Some(function)) =
-        (role_at(code, first), role_at(code, first + 1), role_at(code, first + 2))
-    else {
+    let (Some(number), Some(argument), Some(function)) = (
+        role_at(code, first),
+        role_at(code, first + 1),
+        role_at(code, first + 2),
+    ) else {
         return false;
     };
     if !are_starting(number, argument, function, defined_at(code, first)) {
@@ -241,8 +241,7 @@ fn is_ordered_at<I: HasOutline>(
 /// Whether each instruction has what it asks for, in one pass.
 fn are_ordered<I: HasOutline>(code: &[I], jumps: &Jumps) -> bool
     requires jumps { AreOf (map I.outline code.now) jumps.now }
-    requires defined { (u : ℕ) (i : Outline)
-        → Stands (map I.outline code.now) 0 u i → IfSome i.defined (λ d. d < 1024) }
+    requires defined { DefinesBelow 1024 (map I.outline code.now) }
     ensures { let code = map I.outline code.now in
         IsTrue result ↔ ((u : ℕ) (i : Outline) → Stands code 0 u i → IsOrderedAt code u i) }
 {
@@ -269,8 +268,7 @@ fn ends_with_return<I: HasOutline>(code: &[I]) -> bool
 /// Whether a body has the order that its instructions ask for.
 pub(crate) fn is_ordered<I: HasOutline>(code: &[I], jumps: &Jumps) -> bool
     requires jumps { AreOf (map I.outline code.now) jumps.now }
-    requires defined { (u : ℕ) (i : Outline)
-        → Stands (map I.outline code.now) 0 u i → IfSome i.defined (λ d. d < 1024) }
+    requires defined { DefinesBelow 1024 (map I.outline code.now) }
     ensures { IsTrue result ↔ IsOrdered (map I.outline code.now) }
 {
     if !ends_with_return(code) {

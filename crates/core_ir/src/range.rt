@@ -47,7 +47,10 @@ fn numbers_fit<I: HasOutline>(instr: &I, registers: u32, slots: u32, places: usi
 fn is_unary(op: Operator) -> bool
     ensures { result ≡ spec.is_unary op }
 {
-    matches!(op, Operator::Subtract | Operator::Complement | Operator::Not)
+    matches!(
+        op,
+        Operator::Subtract | Operator::Complement | Operator::Not
+    )
 }
 
 /// Whether it is an operator of two.
@@ -113,7 +116,12 @@ fn is_in_range(program: &Program, function: &Function, instr: &Instr) -> bool
     requires { length function.now.body ≤ 65536 }
     ensures { IsTrue result ↔ IsInRange program.now function.now instr.now }
 {
-    if !numbers_fit(instr, function.registers, function.slots, function.body.len()) {
+    if !numbers_fit(
+        instr,
+        function.registers,
+        function.slots,
+        function.body.len(),
+    ) {
         return false;
     }
     if !types_fit(&program.structs, instr) {

@@ -26,10 +26,11 @@ pub loop-place-preserved : goal.loop-place-preserved
 loop-place-preserved g c = record {
   known = c.pass.ensures;
   ordered = each_more g.I.HasOutline.outline c.args.code.now c.loop-place.place c.index-code-place.result c.loop-place-test.true c.index-code-place.is
-    (IsOrderedAt (map g.I.HasOutline.outline c.args.code.now)) (c.is_ordered_at.ensures.0 c.if-not-is_ordered_at.false) c.loop-place.invariant.ordered;
+      (IsOrderedAt (map g.I.HasOutline.outline c.args.code.now)) (c.is_ordered_at.ensures.0 c.if-not-is_ordered_at.false) c.loop-place.invariant.ordered;
 }
 
 pub returns : goal.returns
-returns g c =
-    (λ is. each_all g.I.HasOutline.outline c.args.code.now c.loop-place.place c.loop-place-test.false (IsOrderedAt (map g.I.HasOutline.outline c.args.code.now)) c.loop-place.invariant.ordered,
-     λ all. refl)
+returns g c = (
+  λ is. each_all g.I.HasOutline.outline c.args.code.now c.loop-place.place c.loop-place-test.false (IsOrderedAt (map g.I.HasOutline.outline c.args.code.now)) c.loop-place.invariant.ordered,
+  λ all. refl,
+)

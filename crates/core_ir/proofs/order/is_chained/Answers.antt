@@ -1,4 +1,4 @@
-use Rattle.std.proofs.Common.{◌∙◌, ℕ, map, sym}
+use Rattle.std.proofs.Common.{◌∙◌, map, sym}
 use Rattle.std.proofs.lemmas.Option.{same_Some}
 use Rattle.core_ir.proofs.Serving.{chain_first}
 use Rattle.core_ir.proofs.Deciding.{chained_kept}
@@ -11,6 +11,7 @@ is_kept-requires-clause-before g c =
 pub returns-in-Some : goal.returns-in-Some
 returns-in-Some g c =
     let code = map g.I.HasOutline.outline c.args.code.now in
-    let chain = c.requires.known.chained c.args.register c.in-Some.first (sym c.in-Some.ensures) in
-    (λ is. record { first = c.in-Some.first; chain = chain; kept = c.is_kept.ensures.0 is },
-     λ chained. c.is_kept.ensures.1 (chained_kept code c.args.place c.args.register c.in-Some.first (λ k other. same_Some _ _ (c.in-Some.ensures ∙ c.requires.known.chain c.args.register k other)) chained))
+    let chain = c.requires.known.chained c.args.register c.in-Some.first (sym c.in-Some.ensures) in (
+      λ is. record { first = c.in-Some.first; chain = chain; kept = c.is_kept.ensures.0 is },
+      λ chained. c.is_kept.ensures.1 (chained_kept code c.args.place c.args.register c.in-Some.first (λ k other. same_Some _ _ (c.in-Some.ensures ∙ c.requires.known.chain c.args.register k other)) chained),
+    )

@@ -12,6 +12,7 @@ returns-then-same t c =
 
 pub returns-in-Array : goal.returns-in-Array
 returns-in-Array t c =
-    let is = c.in-Array.is ∙ ap (λ x. ty.Array x c.in-Array.field-1) (sym c.get.ensures) in
-    (λ yes. layer_in_array c.args.ty.now c.get.result.now c.args.part.now c.in-Array.field-1 is (c.has_layer.ensures.0 yes),
-     λ h. c.has_layer.ensures.1 (layer_of_array c.args.ty.now c.get.result.now c.args.part.now c.in-Array.field-1 is (λ e. both_ways _ c.if-same.false (c.same.ensures.equal.1 e)) h))
+    let is = c.in-Array.is ∙ ap (λ x. ty.Array x c.in-Array.field-1) (sym c.get.ensures) in (
+      λ yes. layer_in_array c.args.ty.now c.get.result.now c.args.part.now c.in-Array.field-1 is (c.has_layer.ensures.0 yes),
+      λ h. c.has_layer.ensures.1 (layer_of_array c.args.ty.now c.get.result.now c.args.part.now c.in-Array.field-1 is (λ e. both_ways _ c.if-same.false (c.same.ensures.equal.1 e)) h),
+    )

@@ -1,5 +1,5 @@
-use Rattle.std.proofs.Common.{◌≡◌, ◌+◌, ◌<◌, ◌∙◌, inl, inr, ℕ, List, get_or, take, length, refl, sym, subst, arith}
-use Rattle.std.specs.List.{All, Contains}
+use Rattle.std.proofs.Common.{◌≡◌, ◌<◌, inl, inr, ℕ, List, get_or, take, length, sym, subst}
+use Rattle.std.specs.List.{Contains}
 use Rattle.std.proofs.lemmas.Bool.{both_ways}
 use Rattle.std.proofs.lemmas.List.{take_all}
 use Rattle.std.proofs.lemmas.List.Elements.{All-more, All-same, Contains-get_or}
@@ -27,11 +27,11 @@ loop-member-preserved c =
       are = c.add_innermost.ensures.found;
       grows = extends_then _ _ _ c.loop-member.invariant.grows c.add_innermost.ensures.grows;
       clean = All-more P c.args.members.now c.loop-member.member-index c.member-item.result c.loop-member-test.true
-        (all_clean_kept _ new c.args.part.now (take c.loop-member.member-index c.args.members.now) c.add_innermost.ensures.grows c.loop-member.invariant.clean)
-        (subst P c.member-item.is now);
+          (all_clean_kept _ new c.args.part.now (take c.loop-member.member-index c.args.members.now) c.add_innermost.ensures.grows c.loop-member.invariant.clean)
+          (subst P c.member-item.is now);
       others = λ s i. elim (c.add_innermost.ensures.others s i) [
-        inl old ↦ c.loop-member.invariant.others s old
-      | inr layer ↦ inr (c.member-item.result, contained c.args.members.now c.loop-member.member-index c.member-item.result c.loop-member-test.true c.member-item.is, layer)
+        | inl old ↦ c.loop-member.invariant.others s old
+        | inr layer ↦ inr (c.member-item.result, contained c.args.members.now c.loop-member.member-index c.member-item.result c.loop-member-test.true c.member-item.is, layer)
       ];
     }
 

@@ -1,8 +1,8 @@
-use Rattle.std.proofs.Common.{◌≡◌, ◌∙◌, ℕ, ◌+◌, ◌<◌, Some, None, length, map, slice_get, sym, ap, subst, arith}
+use Rattle.std.proofs.Common.{◌≡◌, ◌∙◌, ℕ, ◌+◌, length, map, sym, subst, arith}
 use Rattle.std.proofs.lemmas.List.{length-map}
 use Rattle.core_ir.specs.Flow.{Jumps as Jump}
 use Rattle.core_ir.specs.inner.Jumps.{AreGreatest, AreLeast}
-use Rattle.core_ir.proofs.Places.{jump, jump_leads, jump_within, read}
+use Rattle.core_ir.proofs.Places.{jump, jump_leads, read}
 use Rattle.core_ir.proofs.Sources.{greatest_more, greatest_none, greatest_same, least_more, least_none, least_same}
 use Rattle.core_ir.proofs.jumps.Jumps.find_sources.Goals.{in-Some, in_default}
 use Rattle.core_ir.proofs.jumps.Jumps.find_sources.Goals as goal
@@ -27,18 +27,18 @@ loop-source-preserved g c =
     let q = c.loop-source.source in
     let here = read outline c.args.code.now q c.index-code-source.result c.loop-source-test.true c.index-code-source.is in
     elim c.match-target.branch [
-      in-Some w ↦
-        let j = jump code q w.in-Some.target _ here (sym w.in-Some.ensures) in
-        record {
-          least = subst (λ s. AreLeast code (q + 1) s.least) (sym w.self-is) (least_more code q w.in-Some.target j _ _ w.note.ensures.least c.loop-source.invariant.least);
-          greatest = subst (λ s. AreGreatest code (q + 1) s.greatest) (sym w.self-is) (greatest_more code q w.in-Some.target j _ _ w.note.ensures.greatest c.loop-source.invariant.greatest);
-        }
-    | in_default w ↦
-        let none : (l : ℕ) → Jump code 0 q l → ⊥ = λ l j. w.in_default.not-Some l (c.target.ensures ∙ jump_leads _ j here) in
-        record {
-          least = subst (λ s. AreLeast code (q + 1) s.least) (sym w.self-is) (least_same code q _ c.loop-source.invariant.least none);
-          greatest = subst (λ s. AreGreatest code (q + 1) s.greatest) (sym w.self-is) (greatest_same code q _ c.loop-source.invariant.greatest none);
-        }
+      | in-Some w ↦
+          let j = jump code q w.in-Some.target _ here (sym w.in-Some.ensures) in
+          record {
+            least = subst (λ s. AreLeast code (q + 1) s.least) (sym w.self-is) (least_more code q w.in-Some.target j _ _ w.note.ensures.least c.loop-source.invariant.least);
+            greatest = subst (λ s. AreGreatest code (q + 1) s.greatest) (sym w.self-is) (greatest_more code q w.in-Some.target j _ _ w.note.ensures.greatest c.loop-source.invariant.greatest);
+          }
+      | in_default w ↦
+          let none : (l : ℕ) → Jump code 0 q l → ⊥ = λ l j. w.in_default.not-Some l (c.target.ensures ∙ jump_leads _ j here) in
+          record {
+            least = subst (λ s. AreLeast code (q + 1) s.least) (sym w.self-is) (least_same code q _ c.loop-source.invariant.least none);
+            greatest = subst (λ s. AreGreatest code (q + 1) s.greatest) (sym w.self-is) (greatest_same code q _ c.loop-source.invariant.greatest none);
+          }
     ]
 
 pub returns-clause-least : goal.returns-clause-least

@@ -10,6 +10,7 @@ returns-then-place-self g c =
     let inside : c.args.place < length code = omega (arith, length-map c.args.code.now g.I.HasOutline.outline) in
     let jumps = c.requires.jumps in
     let reach = jumps.reach c.args.server (omega (arith, inside)) in
-    let since = jumps.since c.args.place inside in
-    (λ is. unbroken_from code _ _ jumps.least jumps.greatest _ _ _ _ c.requires.before inside reach since c.if-place-self.true (leb-true _ _ is),
-     λ unbroken. le-leb _ _ (since_near code _ _ jumps.least jumps.greatest _ _ _ _ c.requires.before inside reach since unbroken))
+    let since = jumps.since c.args.place inside in (
+      λ is. unbroken_from code _ _ jumps.least jumps.greatest _ _ _ _ c.requires.before inside reach since c.if-place-self.true (leb-true _ _ is),
+      λ unbroken. le-leb _ _ (since_near code _ _ jumps.least jumps.greatest _ _ _ _ c.requires.before inside reach since unbroken),
+    )

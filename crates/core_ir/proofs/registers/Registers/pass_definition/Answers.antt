@@ -1,4 +1,4 @@
-use Rattle.std.proofs.Common.{ℕ, ◌<◌, ◌∙◌, Some, IfSome, map, sym, subst, refl}
+use Rattle.std.proofs.Common.{◌<◌, ◌∙◌, IfSome, map, sym, subst}
 use Rattle.core_ir.specs.inner.Registers.{IsEntered, linked}
 use Rattle.core_ir.proofs.Known.{defined_more, defined_same}
 use Rattle.core_ir.proofs.registers.Registers.pass_definition.Goals as goal

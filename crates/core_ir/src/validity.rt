@@ -1,0 +1,155 @@
+//! Whether a program is valid.
+
+ghost use Rattle.std.specs.Prelude.{◌≡◌, ◌+◌, ◌<◌, ◌≤◌, ◌↔◌, ℕ, All, IsTrue, length, map};
+ghost use Rattle.core_ir.specs.Instructions.{outline_of};
+ghost use Rattle.core_ir.specs.Order.{IsOrdered};
+ghost use Rattle.core_ir.specs.Valid.{HasEntry, HasFrame, HasGlobals, IsInRange, IsLaidOut, IsValid, IsValidFunction, IsWithinLimits, TouchesFit};
+ghost use Rattle.core_ir.specs.inner.Found.{DefinesBelow};
+ghost use Rattle.core_ir.specs.inner.Jumps.{AreOf};
+
+use crate::found::MOST_STRUCTS;
+use crate::frame::{is_framed, is_frameless};
+use crate::jumps::{Jumps, MOST_INSTRUCTIONS};
+use crate::layout::{units_of_globals, units_of_locals};
+use crate::order::is_ordered;
+use crate::program::{Function, Program};
+use crate::range::are_in_range;
+use crate::registers::MOST_REGISTERS;
+use crate::touch::touches_fit;
+use c_types::{StructTable, function_names_below, tables_are_sound};
+
+const MOST_PARAMETERS: usize = 8;
+
+const MOST_SLOTS: u32 = 1_024;
+
+const MOST_FRAME_UNITS: u32 = 16_384;
+
+const MOST_FUNCTIONS: usize = 4_096;
+
+const MOST_GLOBAL_UNITS: u64 = 65_536;
+
+/// Whether the counts of a function are within their limits.
+fn is_within_limits(function: &Function) -> bool
+    ensures { IsTrue result ↔ IsWithinLimits function.now }
+{
+    let parameters = function.ty.params.len();
+    if parameters > MOST_PARAMETERS || parameters > function.slots as usize {
+        return false;
+    }
+    if function.slots > MOST_SLOTS || function.frame_units > MOST_FRAME_UNITS {
+        return false;
+    }
+    function.body.len() <= MOST_INSTRUCTIONS && function.registers as usize <= MOST_REGISTERS
+}
+
+/// Whether the frame of a function is its locals, one behind the other.
+fn is_laid_out(structs: &StructTable, function: &Function) -> bool
+    ensures { IsTrue result ↔ IsLaidOut structs.now function.now }
+{
+    match units_of_locals(structs, function.locals.as_slice()) {
+        Some(units) => units == u64::from(function.frame_units),
+        None => false,
+    }
+}
+
+/// Whether a function with locals enters and leaves a frame, and one without doesn't.
+fn has_frame(function: &Function, jumps: &Jumps) -> bool
+    requires { AreOf (map outline_of function.now.body) jumps.now }
+    ensures { IsTrue result ↔ HasFrame function.now }
+{
+    if function.locals.is_empty() {
+        is_frameless(function.body.as_slice())
+    } else {
+        is_framed(function.body.as_slice(), jumps)
+    }
+}
+
+/// Whether the body of a function has the order, the frame and the touches that it asks for.
+fn is_in_order(structs: &StructTable, function: &Function, jumps: &Jumps) -> bool
+    requires few { length structs.now ≤ 1024 }
+    requires jumps { AreOf (map outline_of function.now.body) jumps.now }
+    requires defined { DefinesBelow 1024 (map outline_of function.now.body) }
+    ensures { IsTrue result ↔ (IsOrdered (map outline_of function.now.body)
+        × HasFrame function.now × TouchesFit structs.now function.now.body) }
+{
+    if !is_ordered(function.body.as_slice(), jumps) {
+        return false;
+    }
+    if !has_frame(function, jumps) {
+        return false;
+    }
+    touches_fit(structs, function.body.as_slice())
+}
+
+/// Whether a function is valid. The tables of jumps are made anew.
+fn is_valid_function(program: &Program, function: &Function, jumps: &mut Jumps) -> bool
+    requires { length program.now.structs ≤ 1024 }
+    ensures { IsTrue result ↔ IsValidFunction program.now function.now }
+{
+    if !is_within_limits(function) {
+        return false;
+    }
+    if !function_names_below(program.structs.len(), &function.ty) {
+        return false;
+    }
+    if !is_laid_out(&program.structs, function) {
+        return false;
+    }
+    if !are_in_range(program, function) {
+        return false;
+    }
+    jumps.read(function.body.as_slice());
+    is_in_order(&program.structs, function, jumps)
+}
+
+/// Whether each function is valid.
+fn are_valid_functions(program: &Program) -> bool
+    requires { length program.now.structs ≤ 1024 }
+    ensures { IsTrue result ↔ All (IsValidFunction program.now) program.now.functions }
+{
+    let mut jumps = Jumps::new();
+    for function in program.functions.as_slice() {
+        if !is_valid_function(program, function, &mut jumps) {
+            return false;
+        }
+    }
+    true
+}
+
+/// Whether the entry function exists and has no parameters.
+fn has_entry(program: &Program) -> bool
+    ensures { IsTrue result ↔ HasEntry program.now }
+{
+    match program.functions.get(program.entry as usize) {
+        Some(entry) => entry.ty.params.is_empty(),
+        None => false,
+    }
+}
+
+/// Whether globals follow one another, within their limit.
+fn has_globals(program: &Program) -> bool
+    ensures { IsTrue result ↔ HasGlobals program.now }
+{
+    match units_of_globals(&program.structs, program.globals.as_slice()) {
+        Some(units) => units <= MOST_GLOBAL_UNITS,
+        None => false,
+    }
+}
+
+/// Whether a program is valid. It looks at each instruction a fixed number of times, and takes no memory but its stack, of
+/// which it takes about a megabyte.
+pub fn valid(program: &Program) -> bool
+    ensures { IsTrue result ↔ IsValid program.now }
+{
+    tables_are_sound(&program.structs);
+    if program.functions.len() > MOST_FUNCTIONS || program.structs.len() as usize > MOST_STRUCTS {
+        return false;
+    }
+    if !has_entry(program) {
+        return false;
+    }
+    if !has_globals(program) {
+        return false;
+    }
+    are_valid_functions(program)
+}
