@@ -1,5 +1,5 @@
 -- The rules on the order of a body's instructions, by their outlines. Programs and the code made of them share them.
-use Rattle.std.specs.Prelude.{◌≡◌, ℕ, suc, ◌+◌, ◌<◌, List, ◌++◌, ◌∷◌, [], Some, IfSome}
+use Rattle.std.specs.Prelude.{◌≡◌, ℕ, suc, ◌+◌, ◌<◌, Bool, true, false, List, ◌++◌, ◌∷◌, [], length, Some, IfSome}
 use Rattle.core_ir.specs.declared.role.Role.{Role}
 use Rattle.core_ir.specs.declared.role.Role.TheVariants as role
 use Rattle.core_ir.specs.Outline.{Outline}
@@ -117,3 +117,17 @@ IsOutsideFrames _ = Unit {0}
 
 abbrev pub IsFrameless : List Outline → Type 0
 IsFrameless code = (u : ℕ) (i : Outline) → Stands code 0 u i → IsOutsideFrames i.role
+
+-- a body with a frame enters and leaves it, and one without doesn't
+abbrev pub KeepsFrame : Bool → List Outline → Type 0
+KeepsFrame true code = IsFramed code
+KeepsFrame false code = IsFrameless code
+
+-- all that is asked of a body by its outlines
+pub record IsWellFormed (registers slots : ℕ) (has_frame : Bool) (code : List Outline) : Type 0 where
+  pub numbers :
+      (u : ℕ) (i : Outline)
+      → Stands code 0 u i
+      → NumbersFit registers slots (length code) i
+  pub ordered : IsOrdered code
+  pub frame : KeepsFrame has_frame code

@@ -1,5 +1,5 @@
 -- When a program is valid: numbers in range, the order of each body, touches before their accesses, and the layout.
-use Rattle.std.specs.Prelude.{◌≡◌, ◌≢◌, ◌⊎◌, ◌<◌, ◌≤◌, ℕ, suc, Bool, true, false, All, List, [], length, map, IsTrue, Option, Some, None, slice_get}
+use Rattle.std.specs.Prelude.{◌≡◌, ◌<◌, ◌≤◌, ℕ, suc, Bool, true, false, All, List, [], length, map, nat_lt, IsTrue, Option, Some, None, slice_get}
 use Rattle.c_types.specs.declared.structs.StructDef.{StructDef}
 use Rattle.c_types.specs.declared.ty.FnTy.{FnTy, out-FnTy}
 use Rattle.c_types.specs.declared.ty.Ty.{Ty}
@@ -14,7 +14,7 @@ use Rattle.core_ir.specs.declared.program.Function.{Function}
 use Rattle.core_ir.specs.declared.program.Program.{Program}
 use Rattle.core_ir.specs.Instructions.{outline_of, types}
 use Rattle.core_ir.specs.Layout.{GlobalsLie, LocalsLie, first_address, global_units, local_units}
-use Rattle.core_ir.specs.Order.{IsFramed, IsFrameless, IsOrdered, NumbersFit}
+use Rattle.core_ir.specs.Order.{IsWellFormed}
 use Rattle.core_ir.specs.Parts.{HasPart}
 
 -- ---- numbers in range
@@ -62,7 +62,6 @@ Fits p f (CallInd c args t s) = HasArguments t args × FunctionTypeFits p.struct
 Fits p f _ = Unit {0}
 
 pub record IsInRange (p : Program) (f : Function) (i : Instr) : Type 0 where
-  pub numbers : NumbersFit f.registers f.slots (length f.body) (outline_of i)
   pub types : All (TypeFits p.structs) (types i)
   pub rest : Fits p f i
 
@@ -121,19 +120,16 @@ pub record IsLaidOut (defs : List StructDef) (f : Function) : Type 0 where
   pub locals_lie : LocalsLie defs 0 f.locals
   pub frame_is_its_locals : f.frame_units ≡ local_units f.locals
 
--- a frame stands where there are locals
-abbrev pub HasFrame : Function → Type 0
-HasFrame f =
-    ((f.locals ≢ []) × IsFramed (map outline_of f.body))
-    ⊎ ((f.locals ≡ []) × IsFrameless (map outline_of f.body))
+-- it has a frame
+abbrev pub has_locals : Function → Bool
+has_locals f = nat_lt 0 (length f.locals)
 
 pub record IsValidFunction (p : Program) (f : Function) : Type 0 where
   pub within_limits : IsWithinLimits f
   pub type_fits : FunctionTypeFits p.structs f.ty
   pub laid_out : IsLaidOut p.structs f
   pub in_range : All (IsInRange p f) f.body
-  pub ordered : IsOrdered (map outline_of f.body)
-  pub framed : HasFrame f
+  pub well_formed : IsWellFormed f.registers f.slots (has_locals f) (map outline_of f.body)
   pub touched : TouchesFit p.structs f.body
 
 -- ---- programs

@@ -9,6 +9,7 @@ ghost use Rattle.core_ir.specs.inner.Jumps.{AreOf};
 ghost use Rattle.core_ir.specs.inner.Registers.{AreKnown, Defines};
 
 use crate::jumps::Jumps;
+use crate::numbers::is_below;
 use crate::outline::HasOutline;
 use crate::registers::Registers;
 use crate::role::{Role, is_return};
@@ -66,16 +67,6 @@ fn are_served<I: HasOutline>(
         }
     }
     true
-}
-
-/// Whether a number, if there is one, is below another.
-pub(crate) fn is_below(number: Option<u32>, bound: u32) -> bool
-    ensures { IsTrue result ↔ IfSome number (λ n. n < bound) }
-{
-    match number {
-        Some(number) => number < bound,
-        None => true,
-    }
 }
 
 /// Whether the instruction at a place defines the register.

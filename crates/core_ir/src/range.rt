@@ -1,47 +1,14 @@
-//! Whether the numbers and types of an instruction are in range.
+//! Whether the types of an instruction and the numbers that it names beside registers, slots and places are in range.
 
-ghost use Rattle.std.specs.Prelude.{◌≡◌, ◌+◌, ◌<◌, ◌≤◌, ◌↔◌, ℕ, All, None, Some, IfSome, IsTrue, length};
-ghost use Rattle.core_ir.specs.Flow.{IsAmong};
-ghost use Rattle.core_ir.specs.Instructions.{outline_of, types};
-ghost use Rattle.core_ir.specs.Order.{NumbersFit};
+ghost use Rattle.std.specs.Prelude.{◌≡◌, ◌+◌, ◌<◌, ◌↔◌, All, IsTrue, length};
+ghost use Rattle.core_ir.specs.Instructions.{types};
 ghost use Rattle.core_ir.specs.Valid as spec;
 ghost use Rattle.core_ir.specs.Valid.{CanCall, Fits, HasArguments, IsInRange, TypeFits};
 
 use crate::instr::{Arguments, Instr};
 use crate::operator::Operator;
-use crate::order::is_below;
-use crate::outline::HasOutline;
 use crate::program::{Function, Program};
 use c_types::{FnTy, StructTable, function_names_below, is_scalar, names_below};
-
-/// Whether each register that the instruction uses is of the first so many.
-fn uses_fit<I: HasOutline>(instr: &I, registers: u32) -> bool
-    ensures { IsTrue result ↔ ((r : ℕ) → IsAmong (I.outline instr.now).used r → r < registers) }
-{
-    for operand in 0..instr.operands() {
-        if instr.operand(operand) >= registers {
-            return false;
-        }
-    }
-    true
-}
-
-/// Whether registers, slots and places are of the first so many.
-fn numbers_fit<I: HasOutline>(instr: &I, registers: u32, slots: u32, places: usize) -> bool
-    requires { places ≤ 65536 }
-    ensures { IsTrue result ↔ NumbersFit registers slots places (I.outline instr.now) }
-{
-    if !is_below(instr.defined(), registers) {
-        return false;
-    }
-    if !is_below(instr.slot(), slots) {
-        return false;
-    }
-    if !is_below(instr.target(), places as u32) {
-        return false;
-    }
-    uses_fit(instr, registers)
-}
 
 /// Whether it is an operator of one operand.
 fn is_unary(op: Operator) -> bool
@@ -111,19 +78,10 @@ fn fits(program: &Program, function: &Function, instr: &Instr) -> bool
     }
 }
 
-/// Whether the numbers and types of an instruction are in range.
+/// Whether the types of an instruction and what it names are in range.
 fn is_in_range(program: &Program, function: &Function, instr: &Instr) -> bool
-    requires { length function.now.body ≤ 65536 }
     ensures { IsTrue result ↔ IsInRange program.now function.now instr.now }
 {
-    if !numbers_fit(
-        instr,
-        function.registers,
-        function.slots,
-        function.body.len(),
-    ) {
-        return false;
-    }
     if !types_fit(&program.structs, instr) {
         return false;
     }
@@ -132,7 +90,6 @@ fn is_in_range(program: &Program, function: &Function, instr: &Instr) -> bool
 
 /// Whether that holds of each instruction of a body.
 pub(crate) fn are_in_range(program: &Program, function: &Function) -> bool
-    requires { length function.now.body ≤ 65536 }
     ensures { IsTrue result ↔ All (IsInRange program.now function.now) function.now.body }
 {
     for instr in function.body.as_slice() {

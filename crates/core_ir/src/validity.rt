@@ -2,16 +2,13 @@
 
 ghost use Rattle.std.specs.Prelude.{◌≡◌, ◌+◌, ◌<◌, ◌≤◌, ◌↔◌, ℕ, All, IsTrue, length, map};
 ghost use Rattle.core_ir.specs.Instructions.{outline_of};
-ghost use Rattle.core_ir.specs.Order.{IsOrdered};
-ghost use Rattle.core_ir.specs.Valid.{HasEntry, HasFrame, HasGlobals, IsInRange, IsLaidOut, IsValid, IsValidFunction, IsWithinLimits, TouchesFit};
-ghost use Rattle.core_ir.specs.inner.Found.{DefinesBelow};
-ghost use Rattle.core_ir.specs.inner.Jumps.{AreOf};
+ghost use Rattle.core_ir.specs.Order.{IsWellFormed};
+ghost use Rattle.core_ir.specs.Valid.{HasEntry, HasGlobals, IsLaidOut, IsValid, IsValidFunction, IsWithinLimits, has_locals};
 
+use crate::checker::BodyChecker;
 use crate::found::MOST_STRUCTS;
-use crate::frame::{is_framed, is_frameless};
-use crate::jumps::{Jumps, MOST_INSTRUCTIONS};
+use crate::jumps::MOST_INSTRUCTIONS;
 use crate::layout::{units_of_globals, units_of_locals};
-use crate::order::is_ordered;
 use crate::program::{Function, Program};
 use crate::range::are_in_range;
 use crate::registers::MOST_REGISTERS;
@@ -52,37 +49,23 @@ fn is_laid_out(structs: &StructTable, function: &Function) -> bool
     }
 }
 
-/// Whether a function with locals enters and leaves a frame, and one without doesn't.
-fn has_frame(function: &Function, jumps: &Jumps) -> bool
-    requires { AreOf (map outline_of function.now.body) jumps.now }
-    ensures { IsTrue result ↔ HasFrame function.now }
+/// Whether the body of a function is well formed.
+fn is_well_formed(function: &Function, checker: &mut BodyChecker) -> bool
+    requires { IsWithinLimits function.now }
+    ensures { IsTrue result
+        ↔ IsWellFormed function.now.registers function.now.slots (has_locals function.now) (map outline_of function.now.body) }
 {
-    if function.locals.is_empty() {
-        is_frameless(function.body.as_slice())
-    } else {
-        is_framed(function.body.as_slice(), jumps)
-    }
+    let has_frame = function.locals.len() > 0;
+    checker.is_well_formed(
+        function.body.as_slice(),
+        function.registers,
+        function.slots,
+        has_frame,
+    )
 }
 
-/// Whether the body of a function has the order, the frame and the touches that it asks for.
-fn is_in_order(structs: &StructTable, function: &Function, jumps: &Jumps) -> bool
-    requires few { length structs.now ≤ 1024 }
-    requires jumps { AreOf (map outline_of function.now.body) jumps.now }
-    requires defined { DefinesBelow 1024 (map outline_of function.now.body) }
-    ensures { IsTrue result ↔ (IsOrdered (map outline_of function.now.body)
-        × HasFrame function.now × TouchesFit structs.now function.now.body) }
-{
-    if !is_ordered(function.body.as_slice(), jumps) {
-        return false;
-    }
-    if !has_frame(function, jumps) {
-        return false;
-    }
-    touches_fit(structs, function.body.as_slice())
-}
-
-/// Whether a function is valid. The tables of jumps are made anew.
-fn is_valid_function(program: &Program, function: &Function, jumps: &mut Jumps) -> bool
+/// Whether a function is valid.
+fn is_valid_function(program: &Program, function: &Function, checker: &mut BodyChecker) -> bool
     requires { length program.now.structs ≤ 1024 }
     ensures { IsTrue result ↔ IsValidFunction program.now function.now }
 {
@@ -98,8 +81,10 @@ fn is_valid_function(program: &Program, function: &Function, jumps: &mut Jumps) 
     if !are_in_range(program, function) {
         return false;
     }
-    jumps.read(function.body.as_slice());
-    is_in_order(&program.structs, function, jumps)
+    if !is_well_formed(function, checker) {
+        return false;
+    }
+    touches_fit(&program.structs, function.body.as_slice())
 }
 
 /// Whether each function is valid.
@@ -107,9 +92,9 @@ fn are_valid_functions(program: &Program) -> bool
     requires { length program.now.structs ≤ 1024 }
     ensures { IsTrue result ↔ All (IsValidFunction program.now) program.now.functions }
 {
-    let mut jumps = Jumps::new();
+    let mut checker = BodyChecker::new();
     for function in program.functions.as_slice() {
-        if !is_valid_function(program, function, &mut jumps) {
+        if !is_valid_function(program, function, &mut checker) {
             return false;
         }
     }
