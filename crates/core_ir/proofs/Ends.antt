@@ -6,8 +6,7 @@ use Rattle.core_ir.specs.declared.role.Role.{Role}
 use Rattle.core_ir.specs.Outline.{Outline}
 use Rattle.core_ir.specs.Order.{EndsWith}
 use Rattle.core_ir.specs.inner.Found.{role_in}
-use Rattle.core_ir.proofs.Places.{got, stands}
-use Rattle.core_ir.proofs.Deciding.{has_role_in, role_in_has}
+use Rattle.core_ir.proofs.Places.{got, has_role_in, role_in_has, stands}
 
 module _ (code : List Outline) (r : Role) where
   pub ends_from : 0 < length code → role_in code (length code - 1) ≡ Some r → EndsWith code r

@@ -1,9 +1,12 @@
 -- What stands at a place of a body.
-use Rattle.std.proofs.Common.{◌≡◌, ◌∙◌, ℕ, ◌-◌, ◌<◌, List, length, map, Some, slice_get, get_or, refl, sym, ap, arith}
+use Rattle.std.proofs.Common.{◌≡◌, ◌∙◌, ℕ, ◌-◌, ◌<◌, List, length, map, Option, Some, None, slice_get, get_or, refl, sym, ap, arith}
 use Rattle.std.proofs.lemmas.Option.{same_Some, slice_get-map, slice_get_read, slice_get_within}
-use Rattle.std.specs.Option.{option_map}
+use Rattle.std.specs.Option.{option_and_then, option_map}
+use Rattle.core_ir.specs.declared.role.Role.{Role}
 use Rattle.core_ir.specs.Outline.{Outline}
-use Rattle.core_ir.specs.Flow.{Jumps, Stands}
+use Rattle.core_ir.specs.Flow.{HasRole, Jumps, Stands}
+use Rattle.core_ir.specs.inner.Found.{defined_in, role_in}
+use Rattle.core_ir.specs.inner.Registers.{Defines}
 
 from_start : (k : ℕ) → k - 0 ≡ k
 from_start k = omega arith
@@ -35,3 +38,28 @@ jump_within j = stands_within j.there
 
 pub one_target : {code : List Outline} {q l m : ℕ} → Jumps code 0 q l → Jumps code 0 q m → l ≡ m
 one_target {code} {q} {l} {m} j k = same_Some l m (sym j.leads ∙ ap (λ x. x.target) (one j.there k.there) ∙ k.leads)
+
+-- ---- its role, and what it defines
+
+pub some_of_map : {A B : Type 0} (f : A → B) (o : Option A) (b : B) → option_map f o ≡ Some b → (a : A) × (o ≡ Some a) × (f a ≡ b)
+some_of_map f None b e = absurd (cc)
+some_of_map f (Some a) b e = (a, refl, same_Some (f a) b e)
+
+pub some_of_then : {A B : Type 0} (f : A → Option B) (o : Option A) (b : B) → option_and_then f o ≡ Some b → (a : A) × (o ≡ Some a) × (f a ≡ Some b)
+some_of_then f None b e = absurd (cc)
+some_of_then f (Some a) b e = (a, refl, e)
+
+module _ (code : List Outline) where
+  pub role_in_has : (k : ℕ) (r : Role) → role_in code k ≡ Some r → HasRole code 0 k r
+  role_in_has k r e = let s = some_of_map (λ (i : Outline). i.role) (slice_get code k) r e in
+      record { instruction = s.0; there = stands code k s.0 s.1; is = s.2 }
+
+  pub has_role_in : (k : ℕ) (r : Role) → HasRole code 0 k r → role_in code k ≡ Some r
+  has_role_in k r has = ap (λ o. option_map (λ (i : Outline). i.role) o) (got has.there) ∙ ap Some has.is
+
+  pub defined_in_defines : (k r : ℕ) → defined_in code k ≡ Some r → Defines code r k
+  defined_in_defines k r e = let s = some_of_then (λ (i : Outline). i.defined) (slice_get code k) r e in
+      record { by = s.0; there = stands code k s.0 s.1; defines = s.2 }
+
+  pub defines_in : (k r : ℕ) (i : Outline) → Stands code 0 k i → i.defined ≡ Some r → defined_in code k ≡ Some r
+  defines_in k r i there e = ap (λ o. option_and_then (λ (i : Outline). i.defined) o) (got there) ∙ e

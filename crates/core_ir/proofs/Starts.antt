@@ -9,9 +9,8 @@ use Rattle.core_ir.specs.Flow.{HasRole, IsUnreached, Serves}
 use Rattle.core_ir.specs.Order.{Behind, InStart, IsFresh, IsStart}
 use Rattle.core_ir.specs.inner.Found.{AreStarting, defined_in, role_in}
 use Rattle.core_ir.specs.inner.Registers.{Defines, IsLast, StartsWith}
-use Rattle.core_ir.proofs.Places.{one}
-use Rattle.core_ir.proofs.Serving.{one_server, serves_from, serves_last}
-use Rattle.core_ir.proofs.Deciding.{defined_in_defines, defines_in, has_role_in, role_in_has}
+use Rattle.core_ir.proofs.Servers.{one_server, serves_from, serves_last}
+use Rattle.core_ir.proofs.Places.{defined_in_defines, has_role_in, one, role_in_has}
 
 -- ---- directly before
 
@@ -51,11 +50,6 @@ starting role.Fork (role.StartArg t) (role.StartFn u f) (Some n) h = record {
 }
 starting _ _ _ _ h = absurd h
 
-started : (a b c : Role) (o : Option ℕ) (t f : ℕ) → a ≡ role.Fork → b ≡ role.StartArg t → c ≡ role.StartFn t f → o ≡ Some t → AreStarting a b c o
-started a b c o t f ea eb ec eo =
-    subst (λ x. AreStarting x b c o) (sym ea) (subst (λ x. AreStarting role.Fork x c o) (sym eb)
-    (subst (λ x. AreStarting role.Fork (role.StartArg t) x o) (sym ec) (subst (λ x. AreStarting role.Fork (role.StartArg t) (role.StartFn t f) x) (sym eo) (refl, refl))))
-
 module _ (code : List Outline) (k : ℕ) where
   pub start_from : (a b c : Role) → role_in code k ≡ Some a → role_in code (k + 1) ≡ Some b → role_in code (k + 2) ≡ Some c
       → AreStarting a b c (defined_in code k) → IsUnreached code 0 (k + 1) → IsUnreached code 0 (k + 2) → (t f : ℕ) × IsStart code k t f
@@ -78,16 +72,6 @@ module _ (code : List Outline) (k : ℕ) where
           function_unreached = v;
         },
       )
-
-  pub start_roles : (a b c : Role) → role_in code k ≡ Some a → role_in code (k + 1) ≡ Some b → role_in code (k + 2) ≡ Some c
-      → (t f : ℕ) → IsStart code k t f → AreStarting a b c (defined_in code k)
-  start_roles a b c ra rb rc t f is =
-      let fork : HasRole code 0 k role.Fork = record { instruction = is.number.instruction; there = is.number.there; is = is.number.is } in
-      started a b c (defined_in code k) t f
-      (same_Some a role.Fork (sym ra ∙ has_role_in code k role.Fork fork))
-      (same_Some b (role.StartArg t) (sym rb ∙ has_role_in code (k + 1) (role.StartArg t) is.argument))
-      (same_Some c (role.StartFn t f) (sym rc ∙ has_role_in code (k + 2) (role.StartFn t f) is.function))
-      (defines_in code k t is.number.instruction is.number.there is.number.defines)
 
 module _ (code : List Outline) (u behind : ℕ) where
   pub in_start_from : behind ≤ u → ((t f : ℕ) × IsStart code (u - behind) t f) → InStart code u behind

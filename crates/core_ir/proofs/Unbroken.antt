@@ -1,5 +1,5 @@
 -- What the tables by place say of jumps.
-use Rattle.std.proofs.Common.{◌↔◌, inl, inr, ℕ, ◌+◌, ◌<◌, ◌≤◌, List, length, slice_index, arith}
+use Rattle.std.proofs.Common.{◌↔◌, inl, inr, ℕ, ◌<◌, ◌≤◌, List, length, slice_index, arith}
 use Rattle.std.proofs.lemmas.Bool.{cases_lt}
 use Rattle.core_ir.specs.Outline.{Outline}
 use Rattle.core_ir.specs.Flow.{IsUnreached, Unbroken}
@@ -25,16 +25,6 @@ module _ (code : List Outline) (least greatest : List ℕ) (lows : AreLeast code
         let held : slice_index greatest l < u = since.free l (omega arith) upto in
         let high : q ≤ slice_index greatest l = highs.above q l j (jump_within j) in
         (omega arith, omega arith)
-
-    pub reach_far : Unbroken code 0 s u → u ≤ e
-    reach_far unbroken = elim (cases_lt e u) [
-      | inl short ↦
-          let low : slice_index least (e + 1) ≤ s = reach.last (omega arith) in
-          let start : s ≤ e = reach.behind in
-          let between = unbroken (slice_index least (e + 1)) (e + 1) (lows.from (e + 1) (omega arith) (omega arith)) (omega arith) (omega arith) in
-          absurd (omega (arith, between.0))
-      | inr far ↦ far
-    ]
 
     pub since_near : Unbroken code 0 s u → b ≤ s
     since_near unbroken = elim (cases_lt s b) [

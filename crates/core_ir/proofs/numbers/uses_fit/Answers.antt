@@ -1,6 +1,6 @@
 use Rattle.std.proofs.Common.{refl, arith}
 use Rattle.std.proofs.lemmas.Option.{slice_get_within}
-use Rattle.core_ir.proofs.Deciding.{among, among_at}
+use Rattle.core_ir.proofs.ServedAndKept.{among, among_at}
 use Rattle.core_ir.proofs.numbers.uses_fit.Goals as goal
 
 pub returns-then-operand-registers : goal.returns-then-operand-registers

@@ -1,7 +1,7 @@
 use Rattle.std.proofs.Common.{◌∙◌, map, refl, sym, arith}
 use Rattle.core_ir.specs.Order.{IsOrderedAt}
 use Rattle.core_ir.proofs.EachPlace.{each_all, each_more, here}
-use Rattle.core_ir.proofs.Known.{known_none}
+use Rattle.core_ir.proofs.RegistersAreKnown.{known_none}
 use Rattle.core_ir.proofs.order.are_ordered.Goals as goal
 
 pub loop-place-init : goal.loop-place-init

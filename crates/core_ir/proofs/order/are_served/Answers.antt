@@ -2,7 +2,7 @@ use Rattle.std.proofs.Common.{◌≡◌, ◌∙◌, inl, inr, map, slice_get, re
 use Rattle.std.proofs.lemmas.Bool.{cases_eq}
 use Rattle.std.proofs.lemmas.Option.{same_Some, slice_get_within}
 use Rattle.core_ir.specs.Order.{Served}
-use Rattle.core_ir.proofs.Deciding.{among, among_at}
+use Rattle.core_ir.proofs.ServedAndKept.{among, among_at}
 use Rattle.core_ir.proofs.order.are_served.Goals as goal
 
 pub loop-operand-preserved : goal.loop-operand-preserved

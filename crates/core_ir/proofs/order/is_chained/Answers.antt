@@ -1,7 +1,7 @@
 use Rattle.std.proofs.Common.{◌∙◌, map, sym}
 use Rattle.std.proofs.lemmas.Option.{same_Some}
-use Rattle.core_ir.proofs.Serving.{chain_first}
-use Rattle.core_ir.proofs.Deciding.{chained_kept}
+use Rattle.core_ir.proofs.Servers.{chain_first}
+use Rattle.core_ir.proofs.ServedAndKept.{chained_kept}
 use Rattle.core_ir.proofs.order.is_chained.Goals as goal
 
 pub is_kept-requires-clause-before : goal.is_kept-requires-clause-before

@@ -3,7 +3,8 @@ use Rattle.std.proofs.lemmas.Bool.{false_from_ne_true, both_ways, not-true, not_
 use Rattle.core_ir.specs.declared.role.Role.TheVariants as role
 use Rattle.core_ir.specs.inner.Found.{role_in}
 use Rattle.core_ir.specs.inner.Registers.{Defines, IsLast}
-use Rattle.core_ir.proofs.Deciding.{kept_before, kept_from, kept_here, role_in_has}
+use Rattle.core_ir.proofs.ServedAndKept.{kept_before, kept_from, kept_here}
+use Rattle.core_ir.proofs.Places.{role_in_has}
 use Rattle.core_ir.proofs.order.is_kept.Goals as goal
 
 pub returns-then-is_below : goal.returns-then-is_below

@@ -1,6 +1,6 @@
 use Rattle.std.proofs.Common.{map, subst, sym}
 use Rattle.core_ir.specs.inner.Registers.{Defines, IsLast}
-use Rattle.core_ir.proofs.Deciding.{served_by, served_from, served_none}
+use Rattle.core_ir.proofs.ServedAndKept.{served_by, served_from, served_none}
 use Rattle.core_ir.proofs.order.is_served.Goals as goal
 
 pub returns-in-Some : goal.returns-in-Some

@@ -2,7 +2,7 @@ use Rattle.std.proofs.Common.{◌∙◌, refl, sym, subst, ap}
 use Rattle.std.proofs.lemmas.Bool.{both_ways}
 use Rattle.c_types.specs.declared.ty.Ty.TheVariants as ty
 use Rattle.core_ir.specs.inner.Search.{HasLayer, outermost}
-use Rattle.core_ir.proofs.Searching.{layer_in_array, layer_of_array}
+use Rattle.core_ir.proofs.FoundStructs.{layer_in_array, layer_of_array}
 use Rattle.core_ir.proofs.parts.+has_layer.Goals as goal
 
 pub returns-then-same : goal.returns-then-same

@@ -2,7 +2,7 @@ use Rattle.std.proofs.Common.{◌∙◌, sym, subst, ap}
 use Rattle.std.proofs.lemmas.Option.{IfSome_then}
 use Rattle.c_types.specs.declared.ty.Ty.TheVariants as ty
 use Rattle.core_ir.specs.inner.Search.{HasLayer, outermost}
-use Rattle.core_ir.proofs.Searching.{layer_in_array}
+use Rattle.core_ir.proofs.FoundStructs.{layer_in_array}
 use Rattle.core_ir.proofs.parts.+innermost.Goals as goal
 
 pub returns-in-Struct-clause-some : goal.returns-in-Struct-clause-some

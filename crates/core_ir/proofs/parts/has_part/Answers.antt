@@ -1,6 +1,6 @@
 use Rattle.std.proofs.Common.{refl}
 use Rattle.std.proofs.lemmas.Bool.{both_ways}
-use Rattle.core_ir.proofs.PartSearch.{layer_is_part, searched_first}
+use Rattle.core_ir.proofs.PartsAreFound.{layer_is_part, searched_first}
 use Rattle.core_ir.proofs.parts.has_part.Goals as goal
 
 pub returns-then-has_layer : goal.returns-then-has_layer

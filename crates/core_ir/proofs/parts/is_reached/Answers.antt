@@ -1,5 +1,5 @@
 use Rattle.std.proofs.Common.{refl, arith}
-use Rattle.core_ir.proofs.PartSearch.{count_few, no_part, searched_more}
+use Rattle.core_ir.proofs.PartsAreFound.{count_few, no_part, searched_more}
 use Rattle.core_ir.proofs.parts.is_reached.Goals as goal
 
 pub returns-in_default : goal.returns-in_default

@@ -5,7 +5,7 @@ use Rattle.std.proofs.lemmas.List.{take_all}
 use Rattle.std.proofs.lemmas.List.Elements.{All-more, All-same, Contains-get_or}
 use Rattle.c_types.specs.declared.structs.Member.{Member}
 use Rattle.core_ir.specs.inner.Search.{IsClean}
-use Rattle.core_ir.proofs.PartSearch.{all_clean_kept, extends_then}
+use Rattle.core_ir.proofs.PartsAreFound.{all_clean_kept, extends_then}
 use Rattle.core_ir.proofs.parts.scan_members.Goals as goal
 
 contained : (ms : List Member) (k : ℕ) (m : Member) → k < length ms → m ≡ get_or ms k m → Contains ms m

@@ -4,7 +4,7 @@ use Rattle.std.specs.Option.{option_and_then}
 use Rattle.c_types.specs.declared.structs.StructDef.{StructDef}
 use Rattle.c_types.specs.Structs.{body_of}
 use Rattle.core_ir.specs.Parts.{member}
-use Rattle.core_ir.proofs.PartSearch.{layer_is_part, layer_part}
+use Rattle.core_ir.proofs.PartsAreFound.{layer_is_part, layer_part}
 use Rattle.core_ir.proofs.parts.scan_struct.Goals as goal
 
 pub returns-in-Some-members-clause-has : goal.returns-in-Some-members-clause-has

@@ -1,6 +1,6 @@
 use Rattle.std.proofs.Common.{◌<◌, map, subst}
 use Rattle.std.proofs.lemmas.List.{length-map}
-use Rattle.core_ir.proofs.InRange.{defines_below, targets_within}
+use Rattle.core_ir.proofs.TargetsWithin.{defines_below, targets_within}
 use Rattle.core_ir.proofs.checker.BodyChecker.is_well_formed.Goals as goal
 
 pub read-requires-clause-targets : goal.read-requires-clause-targets

@@ -1,4 +1,4 @@
-use Rattle.core_ir.proofs.Searching.{fits, found_more}
+use Rattle.core_ir.proofs.FoundStructs.{fits, found_more}
 use Rattle.core_ir.proofs.found.Found.add.Goals as goal
 
 pub bounds-self-self : goal.bounds-self-self

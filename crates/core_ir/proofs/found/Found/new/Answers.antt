@@ -1,5 +1,5 @@
 use Rattle.std.proofs.Common.{refl}
-use Rattle.core_ir.proofs.Searching.{found_none, none_included}
+use Rattle.core_ir.proofs.FoundStructs.{found_none, none_included}
 use Rattle.core_ir.proofs.found.Found.new.Goals as goal
 
 pub returns-clause-found : goal.returns-clause-found

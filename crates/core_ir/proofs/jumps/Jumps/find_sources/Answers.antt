@@ -3,7 +3,7 @@ use Rattle.std.proofs.lemmas.List.{length-map}
 use Rattle.core_ir.specs.Flow.{Jumps as Jump}
 use Rattle.core_ir.specs.inner.Jumps.{AreGreatest, AreLeast}
 use Rattle.core_ir.proofs.Places.{jump, jump_leads, read}
-use Rattle.core_ir.proofs.Sources.{greatest_more, greatest_none, greatest_same, least_more, least_none, least_same}
+use Rattle.core_ir.proofs.SourcesOfJumps.{greatest_more, greatest_none, greatest_same, least_more, least_none, least_same}
 use Rattle.core_ir.proofs.jumps.Jumps.find_sources.Goals.{in-Some, in_default}
 use Rattle.core_ir.proofs.jumps.Jumps.find_sources.Goals as goal
 

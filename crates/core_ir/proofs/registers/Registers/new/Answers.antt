@@ -1,4 +1,4 @@
-use Rattle.core_ir.proofs.Tables.{entry_none}
+use Rattle.core_ir.proofs.RegisterTables.{entry_none}
 use Rattle.core_ir.proofs.registers.Registers.new.Goals as goal
 
 pub returns-clause-last : goal.returns-clause-last

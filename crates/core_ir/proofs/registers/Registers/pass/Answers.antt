@@ -1,5 +1,5 @@
 use Rattle.std.proofs.Common.{◌∙◌, map, refl, sym}
-use Rattle.core_ir.proofs.Known.{started_more, started_same}
+use Rattle.core_ir.proofs.RegistersAreKnown.{started_more, started_same}
 use Rattle.core_ir.proofs.registers.Registers.pass.Goals as goal
 
 pub returns-in-Some : goal.returns-in-Some

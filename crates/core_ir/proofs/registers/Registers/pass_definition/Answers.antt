@@ -1,6 +1,6 @@
 use Rattle.std.proofs.Common.{◌<◌, ◌∙◌, IfSome, map, sym, subst}
 use Rattle.core_ir.specs.inner.Registers.{IsEntered, linked}
-use Rattle.core_ir.proofs.Known.{defined_more, defined_same}
+use Rattle.core_ir.proofs.RegistersAreKnown.{defined_more, defined_same}
 use Rattle.core_ir.proofs.registers.Registers.pass_definition.Goals as goal
 
 pub returns-in-Some-clause-defined : goal.returns-in-Some-clause-defined

@@ -1,5 +1,5 @@
 -- The search for a part: what it finds is a part, and what it doesn't find is none.
-use Rattle.std.proofs.Common.{◌≡◌, ◌∙◌, ◌⊎◌, inl, inr, ℕ, ◌+◌, ◌<◌, ◌≤◌, Bool, List, length, slice_get, slice_index, Some, None, refl, sym, ap, subst, arith}
+use Rattle.std.proofs.Common.{◌≡◌, ◌∙◌, ◌⊎◌, inl, inr, ℕ, ◌+◌, ◌<◌, ◌≤◌, Bool, List, length, slice_get, slice_index, Some, refl, sym, ap, subst, arith}
 use Rattle.std.specs.List.{All}
 use Rattle.std.proofs.lemmas.Bool.{cases_eq}
 use Rattle.std.proofs.lemmas.Option.{slice_get_within}
@@ -13,10 +13,7 @@ use Rattle.c_types.specs.Structs.{body_of}
 use Rattle.core_ir.specs.declared.found.Found.{Found}
 use Rattle.core_ir.specs.Parts.{HasPart, element, member, whole}
 use Rattle.core_ir.specs.inner.Search.{AreFound, AreSearched, Extends, HasLayer, Includes, IsClean, IsScanned, inside, outermost}
-use Rattle.core_ir.proofs.Deciding.{some_of_then}
-
-pub extends_same : (f : Found) → Extends f f
-extends_same f = record { more = omega arith; same = λ k low. refl; kept = λ s i. i }
+use Rattle.core_ir.proofs.Places.{some_of_then}
 
 pub extends_then : (a b c : Found) → Extends a b → Extends b c → Extends a c
 extends_then a b c ab bc = record {
@@ -38,9 +35,6 @@ module _ (defs : List StructDef) where
 
   pub layer_is_part : (t x : Ty) → HasLayer t x → HasPart defs t x
   layer_is_part t x l = layer_part x l (whole x)
-
-  pub no_body : (s : ℕ) → slice_get defs s ≡ None → (ms : List Member) → body_of defs s ≡ Some ms → ⊥
-  no_body s none ms is = let d = some_of_then (λ (d : StructDef). d.members) (slice_get defs s) ms is in let e = d.1 in cc
 
   body_low : length defs ≤ 1024 → (s : ℕ) (ms : List Member) → body_of defs s ≡ Some ms → s < 1024
   body_low few s ms is =
@@ -75,9 +69,6 @@ module _ (defs : List StructDef) where
       ];
       start = clean_kept old new x w grows are.start;
     }
-
-    pub found_part : (old : Found) (k number : ℕ) → AreSearched defs w x old k → Includes old number → HasPart defs (ty.Struct number) x → HasPart defs w x
-    found_part old k number are included h = are.parts number included x h
 
   module _ (few : length defs ≤ 1024) (w x : Ty) (found : Found) (next : ℕ) (are : AreSearched defs w x found next) (all : found.count ≤ next) where
     clean_element : (t : Ty) (n : ℕ) → IsClean found x (ty.Array t n) → IsClean found x t

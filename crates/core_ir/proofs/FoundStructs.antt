@@ -93,16 +93,6 @@ same_array t u m n e =
     let out : ◌≡◌ {A = Ty-F Ty FnTy} (Ty-F.Array t m) (Ty-F.Array u n) = sym (ty.outs-Array t m) ∙ ap out-Ty e ∙ ty.outs-Array u n in
     cc
 
-pub struct_is_no_array : (s : ℕ) (u : Ty) (n : ℕ) → ty.Struct s ≡ ty.Array u n → ⊥
-struct_is_no_array s u n e =
-    let out : ◌≡◌ {A = Ty-F Ty FnTy} (Ty-F.Struct s) (Ty-F.Array u n) = sym (ty.outs-Struct s) ∙ ap out-Ty e ∙ ty.outs-Array u n in
-    cc
-
-pub same_struct : (s t : ℕ) → ty.Struct s ≡ ty.Struct t → s ≡ t
-same_struct s t e =
-    let out : ◌≡◌ {A = Ty-F Ty FnTy} (Ty-F.Struct s) (Ty-F.Struct t) = sym (ty.outs-Struct s) ∙ ap out-Ty e ∙ ty.outs-Struct t in
-    cc
-
 pub layer_of_array : (t u x : Ty) (n : ℕ) → t ≡ ty.Array u n → (t ≡ x → ⊥) → HasLayer t x → HasLayer u x
 layer_of_array t u x n is other h = elim (layer_cases h) [
   | inl e ↦ absurd (other e)
@@ -111,9 +101,3 @@ layer_of_array t u x n is other h = elim (layer_cases h) [
 
 pub layer_in_array : (t u x : Ty) (n : ℕ) → t ≡ ty.Array u n → HasLayer u x → HasLayer t x
 layer_in_array t u x n is h = subst (λ w. HasLayer w x) (sym is) (inside u x n h)
-
-pub layer_of_no_array : (t x : Ty) → ((u : Ty) (n : ℕ) → t ≡ ty.Array u n → ⊥) → HasLayer t x → t ≡ x
-layer_of_no_array t x none h = elim (layer_cases h) [
-  | inl e ↦ e
-  | inr (v, m, e, inner) ↦ absurd (none v m e)
-]

@@ -8,7 +8,7 @@ use Rattle.core_ir.specs.Outline.{Outline}
 use Rattle.core_ir.specs.Flow.{Chain, HasRole, Stands}
 use Rattle.core_ir.specs.inner.Registers.{AreDefined, AreKnown, Defines, IsEntered, IsLast, StartsWith, entry, linked}
 use Rattle.core_ir.proofs.Places.{one}
-use Rattle.core_ir.proofs.Serving.{chain_is_now, chain_less, chain_more, chain_now, chain_first, defines_one, last_kept, last_none, last_now, linked_from, linked_to}
+use Rattle.core_ir.proofs.Servers.{chain_is_now, chain_less, chain_more, chain_now, chain_first, defines_one, last_kept, last_none, last_now, linked_from, linked_to}
 
 pub known_none : (code : List Outline) (new : Registers) → ((r : ℕ) → entry new.last r ≡ None) → ((r : ℕ) → entry new.chain r ≡ None) → ((r : ℕ) → entry new.started r ≡ None) → AreKnown code 0 new
 known_none code new last chain started = record {
