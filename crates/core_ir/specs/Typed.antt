@@ -69,14 +69,40 @@ ServesIn f s u r = Serves (map outline_of f.body) 0 s u r
 -- what the instruction at a place defines has this type; `slots` are the types of the slots
 pub data TypeAt (p : Program) (f : Function) (slots : List Ty) : ℕ → Ty → Type 0 where
   number : (k d : ℕ) (v : ℤ) → IsAt f k (Const d v) → TypeAt p f slots k ty.Int
-  global : (k d g : ℕ) (v : GlobalVar) → IsAt f k (AddrG d g) → slice_get p.globals g ≡ Some v → TypeAt p f slots k (ty.Pointer v.ty)
-  local : (k d v : ℕ) (l : Local) → IsAt f k (AddrL d v) → slice_get f.locals v ≡ Some l → TypeAt p f slots k (ty.Pointer l.ty)
-  function : (k d g : ℕ) (h : Function) → IsAt f k (AddrF d g) → slice_get p.functions g ≡ Some h → TypeAt p f slots k (function_pointer h.ty)
-  slot : (k d s : ℕ) (t : Ty) → IsAt f k (GetLocal d s) → slice_get slots s ≡ Some t → TypeAt p f slots k t
+  global :
+      (k d g : ℕ) (v : GlobalVar)
+      → IsAt f k (AddrG d g)
+      → slice_get p.globals g ≡ Some v
+      → TypeAt p f slots k (ty.Pointer v.ty)
+  local :
+      (k d v : ℕ) (l : Local)
+      → IsAt f k (AddrL d v)
+      → slice_get f.locals v ≡ Some l
+      → TypeAt p f slots k (ty.Pointer l.ty)
+  function :
+      (k d g : ℕ) (h : Function)
+      → IsAt f k (AddrF d g)
+      → slice_get p.functions g ≡ Some h
+      → TypeAt p f slots k (function_pointer h.ty)
+  slot :
+      (k d s : ℕ) (t : Ty)
+      → IsAt f k (GetLocal d s)
+      → slice_get slots s ≡ Some t
+      → TypeAt p f slots k t
   binary : (k d a b : ℕ) (o : Operator) → IsAt f k (Binary d o a b) → TypeAt p f slots k ty.Int
   unary : (k d a : ℕ) (o : Operator) → IsAt f k (Unary d o a) → TypeAt p f slots k ty.Int
-  indexed : (k d q i n s : ℕ) (t : Ty) → IsAt f k (PtrAdd d q i n) → ServesIn f s k q → TypeAt p f slots s t → TypeAt p f slots k t
-  shifted : (k d q n s : ℕ) (t : Ty) → IsAt f k (PtrConst d q n) → ServesIn f s k q → TypeAt p f slots s t → TypeAt p f slots k t
+  indexed :
+      (k d q i n s : ℕ) (t : Ty)
+      → IsAt f k (PtrAdd d q i n)
+      → ServesIn f s k q
+      → TypeAt p f slots s t
+      → TypeAt p f slots k t
+  shifted :
+      (k d q n s : ℕ) (t : Ty)
+      → IsAt f k (PtrConst d q n)
+      → ServesIn f s k q
+      → TypeAt p f slots s t
+      → TypeAt p f slots k t
   cast : (k d a : ℕ) (from to : Ty) → IsAt f k (Cast d a from to) → TypeAt p f slots k to
   load : (k d q : ℕ) (t : Ty) → IsAt f k (Load d q t) → TypeAt p f slots k t
   allocation : (k d a : ℕ) → IsAt f k (Malloc d a) → TypeAt p f slots k void_pointer
@@ -131,10 +157,23 @@ pub record IsTypedBody (p : Program) (f : Function) : Type 0 where
   pub slots : List Ty
   pub slot_count : length slots ≡ f.slots
   pub parameters_first : take (length (out-FnTy f.ty).params) slots ≡ (out-FnTy f.ty).params
-  pub uses : (s u r : ℕ) (i : Instr) (t : Ty) → IsAt f u i → Contains (asked p f slots i) (r, t) → ServesIn f s u r → HasType p f slots s t
-  pub results : (u s : ℕ) (i : Instr) (t : Ty) → IsAt f u i → received p i ≡ Some (s, t) → slice_get slots s ≡ Some t
+  pub uses :
+      (s u r : ℕ) (i : Instr) (t : Ty)
+      → IsAt f u i
+      → Contains (asked p f slots i) (r, t)
+      → ServesIn f s u r
+      → HasType p f slots s t
+  pub results :
+      (u s : ℕ) (i : Instr) (t : Ty)
+      → IsAt f u i
+      → received p i ≡ Some (s, t)
+      → slice_get slots s ≡ Some t
 
 -- every body is typed, and nothing takes the address of the entry function
 pub record IsTypedCode (p : Program) : Type 0 where
   pub bodies : All (IsTypedBody p) p.functions
-  pub entry_not_taken : (f : Function) (k d : ℕ) → Contains p.functions f → IsAt f k (AddrF d p.entry) → ⊥
+  pub entry_not_taken :
+      (f : Function) (k d : ℕ)
+      → Contains p.functions f
+      → IsAt f k (AddrF d p.entry)
+      → ⊥

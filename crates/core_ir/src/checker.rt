@@ -36,7 +36,8 @@ impl BodyChecker {
         }
     }
 
-    /// Whether a body is well formed. The time that it takes grows with the length of the body, however its jumps lie.
+    /// Whether a body is well formed. The time that it takes grows with the length of the body,
+    /// however its jumps lie.
     pub fn is_well_formed<I: HasOutline>(
         &mut self,
         code: &[I],

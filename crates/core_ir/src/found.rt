@@ -33,7 +33,8 @@ impl Found {
     /// The number at a place, if there are more.
     pub(crate) fn get(&self, at: usize) -> Option<u32>
         requires { AreFound self.now }
-        ensures some { IfSome result (λ s. (at < self.now.count) × (s ≡ slice_index self.now.numbers at) × Includes self.now s) }
+        ensures some { IfSome result (λ s. (at < self.now.count)
+            × (s ≡ slice_index self.now.numbers at) × Includes self.now s) }
         ensures none { result ≡ None → self.now.count ≤ at }
     {
         if at < self.count {

@@ -53,7 +53,8 @@ fn fit_frame<I: HasOutline>(code: &[I], jumps: &Jumps) -> bool
     true
 }
 
-/// Whether a body enters its frame first and nowhere else, and leaves it directly before each return and nowhere else.
+/// Whether a body enters its frame first and nowhere else, and leaves it directly before each return
+/// and nowhere else.
 pub(crate) fn is_framed<I: HasOutline>(code: &[I], jumps: &Jumps) -> bool
     requires jumps { AreOf (map I.outline code.now) jumps.now }
     ensures { IsTrue result ↔ IsFramed (map I.outline code.now) }

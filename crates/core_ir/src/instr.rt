@@ -7,8 +7,9 @@ use sqlite_items::Items;
 /// The registers of a call's arguments, in order.
 pub type Arguments = Items<u32>;
 
-/// An instruction. `d` is the register that it defines; `a`, `b`, `c`, `f` of `StartFn`, `i`, `p` and `t` are registers
-/// that it uses; `s` is a slot, but in `PtrAdd` a number of units; `l` is a place of the same function.
+/// An instruction. `d` is the register that it defines; `a`, `b`, `c`, `f` of `StartFn`, `i`, `p` and `t`
+/// are registers that it uses; `s` is a slot, but in `PtrAdd` a number of units; `l` is a place of the
+/// same function.
 #[derive(Debug, Drop)]
 pub enum Instr {
     /// A number.
@@ -70,8 +71,8 @@ pub enum Instr {
         from: Ty,
         to: Ty,
     },
-    /// A test of the address that the access behind it uses. `ty` is the type of the variable, or of what the pointer
-    /// points to.
+    /// A test of the address that the access behind it uses. `ty` is the type of the variable, or of
+    /// what the pointer points to.
     Touch {
         p: u32,
         ty: Ty,

@@ -1,8 +1,8 @@
 //! From where jumps lead to each place of a body, and how far a register is kept.
 //!
-//! A register that place `s` defines is kept for a use at place `u` where no jump leads behind `s` and not behind `u` but
-//! those from between the two. Two tables by place tell this: how far no jump from `s` or before leads, and from where on
-//! no jump from `u` or behind leads.
+//! A register that place `s` defines is kept for a use at place `u` where no jump leads behind `s` and not
+//! behind `u` but those from between the two. Two tables by place tell this: how far no jump from `s` or
+//! before leads, and from where on no jump from `u` or behind leads.
 
 ghost use Rattle.std.specs.Prelude.{◌≡◌, ◌+◌, ◌<◌, ◌≤◌, ◌↔◌, ℕ, IsTrue, length, map, slice_index, slice_set, min, max};
 ghost use Rattle.core_ir.specs.Flow.{Jumps as Jump, IsUnreached, Unbroken};
@@ -29,14 +29,15 @@ pub(crate) struct Jumps {
     since: [u32; MOST_INSTRUCTIONS],
 }
 
-/// How far no jump from `start` or before leads behind it. What is reached behind `start` is known, so places that were
-/// passed once are never looked at again.
+/// How far no jump from `start` or before leads behind it. What is reached behind `start` is known, so
+/// places that were passed once are never looked at again.
 fn reach_of(least: &[u32], reach: &[u32], count: usize, start: usize) -> u32
     requires few { count ≤ 65536 }
     requires start_in { start < count }
     requires least_in { count ≤ length least.now }
     requires reach_in { count ≤ length reach.now }
-    requires known { (s : ℕ) → start < s → s < count → Reaches least.now count s (slice_index reach.now s) }
+    requires known { (s : ℕ) → start < s → s < count
+        → Reaches least.now count s (slice_index reach.now s) }
     ensures { Reaches least.now count start result }
 {
     let mut end = start;
@@ -87,8 +88,10 @@ impl Jumps {
     /// Notes a jump.
     fn note(&mut self, source: u32, target: u32)
         requires { target < 65536 }
-        ensures least { IsSet self.old.least target (min (slice_index self.old.least target) source) self.new.least }
-        ensures greatest { IsSet self.old.greatest target (max (slice_index self.old.greatest target) source) self.new.greatest }
+        ensures least { let old = self.old.least in
+            IsSet old target (min (slice_index old target) source) self.new.least }
+        ensures greatest { let old = self.old.greatest in
+            IsSet old target (max (slice_index old target) source) self.new.greatest }
     {
         let target = target as usize;
         self.least[target] = self.least[target].min(source);
@@ -99,8 +102,10 @@ impl Jumps {
     fn find_sources<I: HasOutline>(&mut self, code: &[I])
         requires few { length code.now ≤ 65536 }
         requires targets { (q l : ℕ) → Jump (map I.outline code.now) 0 q l → l < length code.now }
-        ensures least { let code = map I.outline code.now in AreLeast code (length code) self.new.least }
-        ensures greatest { let code = map I.outline code.now in AreGreatest code (length code) self.new.greatest }
+        ensures least { let code = map I.outline code.now in
+            AreLeast code (length code) self.new.least }
+        ensures greatest { let code = map I.outline code.now in
+            AreGreatest code (length code) self.new.greatest }
     {
         self.clear(code.len());
         for (source, instr) in code.iter().enumerate() {
@@ -113,7 +118,8 @@ impl Jumps {
     /// Finds how far no jump from each place or before leads behind it.
     fn find_reach(&mut self, count: usize)
         requires { count ≤ 65536 }
-        ensures reach { (s : ℕ) → s < count → Reaches self.old.least count s (slice_index self.new.reach s) }
+        ensures reach { (s : ℕ) → s < count
+            → Reaches self.old.least count s (slice_index self.new.reach s) }
         ensures least { self.new.least ≡ self.old.least }
         ensures greatest { self.new.greatest ≡ self.old.greatest }
     {
@@ -125,7 +131,8 @@ impl Jumps {
     /// Finds from where on no jump from each place or behind leads up to it.
     fn find_since(&mut self, count: usize)
         requires { count ≤ 65536 }
-        ensures since { (u : ℕ) → u < count → Begins self.old.greatest u (slice_index self.new.since u) }
+        ensures since { (u : ℕ) → u < count
+            → Begins self.old.greatest u (slice_index self.new.since u) }
         ensures least { self.new.least ≡ self.old.least }
         ensures greatest { self.new.greatest ≡ self.old.greatest }
         ensures reach { self.new.reach ≡ self.old.reach }

@@ -33,9 +33,11 @@ fn lies(structs: &StructTable, should: u64, place: u32, ty: &Ty, units: u32) -> 
     names_below(structs.len(), ty)
 }
 
-/// The sum of the units of globals that follow one another from the first address on, and none where they don't.
+/// The sum of the units of globals that follow one another from the first address on, and none where
+/// they don't.
 pub(crate) fn units_of_globals(structs: &StructTable, globals: &[GlobalVar]) -> Option<u64>
-    ensures some { IfSome result (λ n. GlobalsLie structs.now 128 globals.now × (n ≡ global_units globals.now)) }
+    ensures some { IfSome result
+        (λ n. GlobalsLie structs.now 128 globals.now × (n ≡ global_units globals.now)) }
     ensures none { result ≡ None → GlobalsLie structs.now 128 globals.now → ⊥ }
 {
     let mut address = FIRST_ADDRESS;
@@ -48,10 +50,11 @@ pub(crate) fn units_of_globals(structs: &StructTable, globals: &[GlobalVar]) -> 
     Some(address - FIRST_ADDRESS)
 }
 
-/// The sum of the units of locals that follow one another from offset 0 on and have at least one unit each, and none
-/// where they don't.
+/// The sum of the units of locals that follow one another from offset 0 on and have at least one unit
+/// each, and none where they don't.
 pub(crate) fn units_of_locals(structs: &StructTable, locals: &[Local]) -> Option<u64>
-    ensures some { IfSome result (λ n. LocalsLie structs.now 0 locals.now × (n ≡ local_units locals.now)) }
+    ensures some { IfSome result
+        (λ n. LocalsLie structs.now 0 locals.now × (n ≡ local_units locals.now)) }
     ensures none { result ≡ None → LocalsLie structs.now 0 locals.now → ⊥ }
 {
     let mut offset = 0;

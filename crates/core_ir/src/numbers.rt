@@ -50,7 +50,8 @@ fn numbers_fit<I: HasOutline>(instr: &I, registers: u32, slots: u32, places: usi
 pub(crate) fn are_numbered<I: HasOutline>(code: &[I], registers: u32, slots: u32) -> bool
     requires { length code.now ≤ 65536 }
     ensures { let code = map I.outline code.now in
-        IsTrue result ↔ ((u : ℕ) (i : Outline) → Stands code 0 u i → NumbersFit registers slots (length code) i) }
+        IsTrue result ↔ ((u : ℕ) (i : Outline) → Stands code 0 u i
+        → NumbersFit registers slots (length code) i) }
 {
     for instr in code {
         if !numbers_fit(instr, registers, slots, code.len()) {

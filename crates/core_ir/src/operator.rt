@@ -1,7 +1,7 @@
 //! The operators of Core.
 
-/// What `Binary` and `Unary` compute. `Unary` has `Subtract`, which negates, `Complement` or `Not`; `Binary` has the
-/// others and `Subtract`.
+/// What `Binary` and `Unary` compute. `Unary` has `Subtract`, which negates, `Complement` or `Not`;
+/// `Binary` has the others and `Subtract`.
 #[derive(Clone, Copy, Debug, PartialEq, Eq)]
 pub enum Operator {
     Add,

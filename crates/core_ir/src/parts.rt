@@ -38,7 +38,8 @@ fn add_innermost(found: &mut Found, ty: &Ty)
     ensures found { AreFound found.new }
     ensures added { (s : ℕ) → HasLayer ty.now (Ty.Struct s) → s < 1024 → Includes found.new s }
     ensures grows { Extends found.old found.new }
-    ensures others { (s : ℕ) → Includes found.new s → Includes found.old s ⊎ HasLayer ty.now (Ty.Struct s) }
+    ensures others { (s : ℕ) → Includes found.new s
+        → Includes found.old s ⊎ HasLayer ty.now (Ty.Struct s) }
 {
     if let Some(number) = innermost(ty) {
         found.add(number);
@@ -72,7 +73,8 @@ fn scan_struct(structs: &StructTable, found: &mut Found, number: u32, part: &Ty)
     ensures has { IsTrue result → HasPart structs.now (Ty.Struct number) part.now }
     ensures scanned { result ≡ false → IsScanned structs.now found.new part.now number }
     ensures others { (s : ℕ) → Includes found.new s
-        → Includes found.old s ⊎ ((x : Ty) → HasPart structs.now (Ty.Struct s) x → HasPart structs.now (Ty.Struct number) x) }
+        → Includes found.old s
+        ⊎ ((x : Ty) → HasPart structs.now (Ty.Struct s) x → HasPart structs.now (Ty.Struct number) x) }
 {
     let Some(def) = structs.get(number) else {
         return false;

@@ -1,4 +1,5 @@
-//! Whether the types of an instruction and the numbers that it names beside registers, slots and places are in range.
+//! Whether the types of an instruction, and the numbers that it names beside registers, slots and places,
+//! are in range.
 
 ghost use Rattle.std.specs.Prelude.{◌≡◌, ◌+◌, ◌<◌, ◌↔◌, All, IsTrue, length};
 ghost use Rattle.core_ir.specs.Instructions.{types};

@@ -28,7 +28,8 @@ fn entry_of(table: &[Option<u32>], register: u32) -> Option<u32>
     *table.get(register as usize)?
 }
 
-/// The register with the function that an instruction of this role starts a thread with, if the tables have it.
+/// The register with the function that an instruction of this role starts a thread with, if the tables
+/// have it.
 fn started_by(role: Role) -> Option<u32>
     ensures some { IfSome result (λ f. (f < 1024) × ((t : ℕ) × (role ≡ Role.StartFn t f))) }
     ensures none { result ≡ None → (t f : ℕ) → role ≡ Role.StartFn t f → 1024 ≤ f }

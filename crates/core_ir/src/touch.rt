@@ -12,7 +12,8 @@ use c_types::{StructTable, Ty};
 /// Whether a type is that of an access, or has it as a part.
 fn has_access(structs: &StructTable, whole: &Ty, access: &Instr) -> bool
     requires { length structs.now ≤ 1024 }
-    ensures { IsTrue result ↔ ((part : Ty) → access_type access.now ≡ Some part → HasPart structs.now whole.now part) }
+    ensures { IsTrue result ↔ ((part : Ty) → access_type access.now ≡ Some part
+        → HasPart structs.now whole.now part) }
 {
     match access {
         Instr::Load { ty, .. } | Instr::Store { ty, .. } => has_part(structs, whole, ty),

@@ -52,8 +52,8 @@ fn is_laid_out(structs: &StructTable, function: &Function) -> bool
 /// Whether the body of a function is well formed.
 fn is_well_formed(function: &Function, checker: &mut BodyChecker) -> bool
     requires { IsWithinLimits function.now }
-    ensures { IsTrue result
-        ↔ IsWellFormed function.now.registers function.now.slots (has_locals function.now) (map outline_of function.now.body) }
+    ensures { let f = function.now in
+        IsTrue result ↔ IsWellFormed f.registers f.slots (has_locals f) (map outline_of f.body) }
 {
     let has_frame = function.locals.len() > 0;
     checker.is_well_formed(
@@ -121,8 +121,8 @@ fn has_globals(program: &Program) -> bool
     }
 }
 
-/// Whether a program is valid. It looks at each instruction a fixed number of times, and takes no memory but its stack, of
-/// which it takes about a megabyte.
+/// Whether a program is valid. It goes over each body a fixed number of times, and takes no memory but its
+/// stack, of which it takes about a megabyte.
 pub fn valid(program: &Program) -> bool
     ensures { IsTrue result ↔ IsValid program.now }
 {

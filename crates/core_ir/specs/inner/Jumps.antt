@@ -9,7 +9,8 @@ pub record IsSet (old : List ℕ) (at v : ℕ) (new : List ℕ) : Type 0 where
   pub there : slice_index new at ≡ v
   pub elsewhere : (k : ℕ) → k ≢ at → slice_index new k ≡ slice_index old k
 
--- the least place from which a jump of the first so many instructions leads to each place; at least their number where none does
+-- the least place from which a jump of the first so many instructions leads to each place, and a number that is no
+-- place where none does
 pub record AreLeast (code : List Outline) (upto : ℕ) (least : List ℕ) : Type 0 where
   pub below : (q l : ℕ) → Jump code 0 q l → q < upto → slice_index least l ≤ q
   pub from : (l : ℕ) → l < length code → slice_index least l < length code → Jump code 0 (slice_index least l) l
