@@ -21,6 +21,7 @@ pub use kinds::{
     target_of,
 };
 pub use name::{Name, copy_name};
+pub use named_structs::{function_names_below, names_below};
 pub use part_count::parts;
 pub use sameness::{same, same_functions};
 pub use struct_table::{StructTable, copy_table};

@@ -8,7 +8,7 @@ use crate::ty::{FnTy, Ty};
 /// Whether each struct that the type names is of the first so many.
 #[cycle(names)]
 #[tactic(auto, unfolding(crate::specs::Sound::names_below, crate::specs::Sound::function_names_below))]
-pub(crate) fn names_below(count: u32, ty: &Ty) -> bool
+pub fn names_below(count: u32, ty: &Ty) -> bool
     ensures { result ≡ spec.names_below count ty.now }
 {
     match ty {
@@ -23,7 +23,7 @@ pub(crate) fn names_below(count: u32, ty: &Ty) -> bool
 /// The same for the type of a function.
 #[cycle(names)]
 #[tactic(auto, unfolding(crate::specs::Sound::names_below, crate::specs::Sound::function_names_below))]
-fn function_names_below(count: u32, function: &FnTy) -> bool
+pub fn function_names_below(count: u32, function: &FnTy) -> bool
     ensures { result ≡ spec.function_names_below count function.now }
 {
     if !names_below(count, &function.result) {

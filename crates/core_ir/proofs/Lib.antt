@@ -1,0 +1,13 @@
+mod Places
+mod SourcesOfJumps
+mod Unbroken
+mod RegisterTables
+mod Servers
+mod RegistersAreKnown
+mod ServedAndKept
+mod Starts
+mod Ends
+mod EachPlace
+mod FoundStructs
+mod PartsAreFound
+mod TargetsWithin

@@ -1,0 +1,10 @@
+pub mod Outline
+pub mod Flow
+pub mod Order
+pub mod Instructions
+pub mod Parts
+pub mod Layout
+pub mod Valid
+pub mod SafeLocal
+pub mod Typed
+pub mod inner

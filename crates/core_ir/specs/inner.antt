@@ -1,0 +1,4 @@
+pub mod Found
+pub mod Jumps
+pub mod Registers
+pub mod Search
