@@ -1,8 +1,8 @@
 -- The readers of a depth, by those of the depth below.
 use Rattle.std.proofs.Common.{◌≡◌, ℕ, suc, ◌-◌, ◌<◌, List, None, refl, ap, ◌∙◌, arith}
 use Rattle.c_tree.specs.Marks.{Kinds}
-use Rattle.c_expr.specs.Readers.{readers, nothing}
-use Rattle.c_expr.specs.Nests.{below}
+use Rattle.c_expr.specs.inner.Readers.{readers, nothing}
+use Rattle.c_expr.specs.inner.Nests.{below}
 
 pub below_zero : (names : List (List ℕ)) (depth : ℕ) → depth ≡ 0 → below names depth ≡ nothing
 unfolding below

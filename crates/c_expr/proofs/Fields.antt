@@ -1,11 +1,11 @@
 -- The readers of a depth, one by one.
 use Rattle.std.proofs.Common.{◌≡◌, ℕ, zero, suc, ◌-◌, ◌<◌, Bool, List, None, refl, ap, ◌∙◌, arith}
 use Rattle.c_tree.specs.Marks.{Kinds}
-use Rattle.c_expr.specs.Nests.{below}
-use Rattle.c_expr.specs.Readers as reader
-use Rattle.c_expr.specs.Readers.{Readers, readers, nothing}
+use Rattle.c_expr.specs.inner.Nests.{below}
+use Rattle.c_expr.specs.inner.Readers as reader
+use Rattle.c_expr.specs.inner.Readers.{Readers, readers, nothing}
 use Rattle.c_tokens.specs.declared.token.Mark.TheVariants as mark
-use Rattle.c_expr.specs.Parser.{◌>>=◌, run}
+use Rattle.c_expr.specs.inner.Parser.{◌>>=◌, run}
 
 -- what holds at a depth behind another holds at each depth that is not 0
 pub some_depth : (P : ℕ → Type 0) → ((d : ℕ) → P (suc d)) → (depth : ℕ) → 0 < depth → P depth

@@ -4,9 +4,9 @@ use Rattle.c_tokens.specs.declared.token.Mark.TheVariants as mark
 use Rattle.c_tree.specs.Marks.{Kinds, greatest_pairs, assign_level}
 use Rattle.c_tree.specs.declared.expression.Expr.{Expr}
 use Rattle.c_expr.specs.declared.operand.Operand.{Operand}
-use Rattle.c_expr.specs.Parser.{Outcome, Parser, Tall, and_then, ◌>>◌, pure, mismatch, expect}
-use Rattle.c_expr.specs.Readers.{Readers, grow, close, bracketed}
-use Rattle.c_expr.specs.Nests.{in_pair}
+use Rattle.c_expr.specs.inner.Parser.{Outcome, Parser, Tall, and_then, ◌>>◌, pure, mismatch, expect}
+use Rattle.c_expr.specs.inner.Readers.{Readers, grow, close, bracketed}
+use Rattle.c_expr.specs.inner.Nests.{in_pair}
 
 module _ (more : Operand → Parser (Tall Expr)) (o : Operand) where
   pair_test : (b : Bool) (ts : Kinds) → (if b then more (bracketed o) else mismatch) ts ≡ and_then ((if b then pure (bracketed o) else mismatch) ts) more

@@ -7,7 +7,7 @@ use Rattle.c_tokens.specs.declared.token.Keyword.{Keyword}
 use Rattle.c_tokens.specs.declared.token.Kind.TheVariants.{Word, Name, Number, Text, Mark}
 use Rattle.c_tokens.specs.declared.token.Mark.{Mark as MarkName}
 use Rattle.c_tree.specs.Marks.{Kinds}
-use Rattle.c_expr.specs.Parser.{same_mark, same_word, sees, after, expect}
+use Rattle.c_expr.specs.inner.Parser.{same_mark, same_word, sees, after, expect}
 
 pub same_mark_is : (m : MarkName) → same_mark m m ≡ true
 unfolding same_mark

@@ -1,16 +1,16 @@
 //! Declarators with a name.
 
 ghost use Rattle.std.specs.Prelude.{◌≡◌, ◌≤◌, ◌+◌, ◌-◌, IfOk};
-ghost use Rattle.c_expr.specs.Nests.{Nests, below};
-ghost use Rattle.c_expr.specs.Parser.{separated};
-ghost use Rattle.c_expr.specs.Readers as reader;
-ghost use Rattle.c_expr.specs.Readers.{readers};
-ghost use Rattle.c_expr.specs.Reads.{Reads};
+ghost use Rattle.c_expr.specs.inner.Nests.{Nests, below};
+ghost use Rattle.c_expr.specs.inner.Parser.{separated};
+ghost use Rattle.c_expr.specs.inner.Readers as reader;
+ghost use Rattle.c_expr.specs.inner.Readers.{readers};
+ghost use Rattle.c_expr.specs.inner.Reads.{Reads};
 
 use crate::brackets::{Bracketed, Core, formed, whole_of};
 use crate::cursor::Cursor;
 use crate::error::Failure;
-use crate::front::{free_name, opened};
+use crate::lookahead::{free_name, opened};
 use crate::grammar::Grammar;
 use crate::level::GREATEST_PAIRS;
 use crate::names::Names;
@@ -25,7 +25,7 @@ where
     G: Fn(Global, &Names, &mut Cursor<'_>, usize) -> Result<(Params, usize), Failure> + Copy,
 {
     /// The name alone.
-    #[tactic(auto, unfolding(crate::specs::Readers::named))]
+    #[tactic(auto, unfolding(crate::specs::inner::Readers::named))]
     fn named(&self, tokens: &mut Cursor<'_>) -> Result<Bracketed, Failure>
         ensures reads { Reads (reader.named self.now.names.now (below self.now.names.now self.now.depth) tokens.old) result tokens.new }
         ensures tall { IfOk result (λ b. b.height ≤ 0) }
@@ -39,7 +39,7 @@ where
     }
 
     /// What has these stars before it, with the suffixes behind it.
-    #[tactic(auto, unfolding(crate::specs::Readers::finished))]
+    #[tactic(auto, unfolding(crate::specs::inner::Readers::finished))]
     fn finished(
         &self,
         tokens: &mut Cursor<'_>,
@@ -117,7 +117,7 @@ where
 
     /// A name, or a declarator in parentheses.
     #[cycle(direct)]
-    #[tactic(auto, unfolding(crate::specs::Readers::direct))]
+    #[tactic(auto, unfolding(crate::specs::inner::Readers::direct))]
     fn direct(&self, tokens: &mut Cursor<'_>) -> Result<Bracketed, Failure>
         requires nests { Nests self.now.depth (F.pre self.now.expr) (F.post self.now.expr) (G.pre self.now.params) (G.post self.now.params) }
         ensures reads { Reads (reader.direct self.now.names.now (below self.now.names.now self.now.depth) (self.now.depth - 1) tokens.old) result tokens.new }
@@ -146,7 +146,7 @@ where
     }
 
     /// A declarator.
-    #[tactic(auto, unfolding(crate::specs::Readers::declarator))]
+    #[tactic(auto, unfolding(crate::specs::inner::Readers::declarator))]
     pub fn declarator(&self, tokens: &mut Cursor<'_>) -> Result<(Declarator, usize), Failure>
         requires nests { Nests self.now.depth (F.pre self.now.expr) (F.post self.now.expr) (G.pre self.now.params) (G.post self.now.params) }
         ensures reads { Reads ((readers self.now.names.now self.now.depth).declarator tokens.old) result tokens.new }

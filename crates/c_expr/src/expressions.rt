@@ -1,14 +1,14 @@
 //! Expressions, by precedence climbing.
 
 ghost use Rattle.std.specs.Prelude.{◌≡◌, ◌≤◌, ◌<◌, ◌+◌, ◌-◌, ◌^◌, IfOk, IfSome};
-ghost use Rattle.c_expr.specs.Parser.{separated};
-ghost use Rattle.c_expr.specs.Nests.{Nests, below, in_pair};
-ghost use Rattle.c_expr.specs.Readers as reader;
-ghost use Rattle.c_expr.specs.Reads.{Reads};
+ghost use Rattle.c_expr.specs.inner.Parser.{separated};
+ghost use Rattle.c_expr.specs.inner.Nests.{Nests, below, in_pair};
+ghost use Rattle.c_expr.specs.inner.Readers as reader;
+ghost use Rattle.c_expr.specs.inner.Reads.{Reads};
 
 use crate::cursor::Cursor;
 use crate::error::Failure;
-use crate::front::{free_name, name_of, opened, opens_type};
+use crate::lookahead::{free_name, name_of, opened, opens_type};
 use crate::grammar::Grammar;
 use crate::level::{
     ASSIGN_LEVEL, CAST_LEVEL, CONDITIONAL_LEVEL, GREATEST_PAIRS, UNARY_LEVEL, binary_level,
@@ -46,7 +46,7 @@ where
     }
 
     /// The arguments of a call, behind its `(`.
-    #[tactic(auto, unfolding(crate::specs::Readers::arguments))]
+    #[tactic(auto, unfolding(crate::specs::inner::Readers::arguments))]
     fn arguments(&self, tokens: &mut Cursor<'_>) -> Result<(Items<Expr>, usize), Failure>
         requires { Nests self.now.depth (F.pre self.now.expr) (F.post self.now.expr) (G.pre self.now.params) (G.post self.now.params) }
         ensures reads { Reads (reader.arguments self.now.names.now (below self.now.names.now self.now.depth) tokens.old) result tokens.new }
@@ -61,7 +61,7 @@ where
     }
 
     /// What stands behind a `[`.
-    #[tactic(auto, unfolding(crate::specs::Readers::index))]
+    #[tactic(auto, unfolding(crate::specs::inner::Readers::index))]
     fn index(&self, tokens: &mut Cursor<'_>) -> Result<(Part, usize), Failure>
         requires { Nests self.now.depth (F.pre self.now.expr) (F.post self.now.expr) (G.pre self.now.params) (G.post self.now.params) }
         ensures reads { Reads (reader.index self.now.names.now (below self.now.names.now self.now.depth) tokens.old) result tokens.new }
@@ -73,7 +73,7 @@ where
     }
 
     /// What stands behind a `?`.
-    #[tactic(auto, unfolding(crate::specs::Readers::arms))]
+    #[tactic(auto, unfolding(crate::specs::inner::Readers::arms))]
     fn arms(&self, tokens: &mut Cursor<'_>) -> Result<(Part, usize), Failure>
         requires { Nests self.now.depth (F.pre self.now.expr) (F.post self.now.expr) (G.pre self.now.params) (G.post self.now.params) }
         ensures reads { Reads (reader.arms self.now.names.now (below self.now.names.now self.now.depth) tokens.old) result tokens.new }
@@ -89,7 +89,7 @@ where
     }
 
     /// What an operand goes on with, behind the mark.
-    #[tactic(auto, unfolding(crate::specs::Readers::part))]
+    #[tactic(auto, unfolding(crate::specs::inner::Readers::part))]
     fn part(&self, tokens: &mut Cursor<'_>, next: Continuation) -> Result<(Part, usize), Failure>
         requires { Nests self.now.depth (F.pre self.now.expr) (F.post self.now.expr) (G.pre self.now.params) (G.post self.now.params) }
         ensures reads { Reads (reader.part self.now.names.now (below self.now.names.now self.now.depth) next tokens.old) result tokens.new }
@@ -124,7 +124,7 @@ where
     }
 
     /// What the operand goes on with, at these levels.
-    #[tactic(auto, unfolding(crate::specs::Readers::going_on))]
+    #[tactic(auto, unfolding(crate::specs::inner::Readers::going_on))]
     fn going_on(&self, tokens: &Cursor<'_>, least: usize, operand: &Operand) -> Option<Continuation>
         ensures is { result ≡ reader.going_on (self.now.depth - 1) least operand.now tokens.now }
         ensures low { IfSome result (λ _. operand.now.height ≤ self.now.depth - 1) }
@@ -175,7 +175,7 @@ where
     }
 
     /// The operand in the parentheses that are open round it.
-    #[tactic(auto, unfolding(crate::specs::Nests::in_pair))]
+    #[tactic(auto, unfolding(crate::specs::inner::Nests::in_pair))]
     fn in_pair(&self, tokens: &mut Cursor<'_>, operand: Operand) -> Result<Operand, Failure>
         requires nests { Nests self.now.depth (F.pre self.now.expr) (F.post self.now.expr) (G.pre self.now.params) (G.post self.now.params) }
         requires low { operand.height ≤ 1 + (self.now.depth - 1) }
@@ -217,7 +217,7 @@ where
     }
 
     /// What stands behind `sizeof`.
-    #[tactic(auto, unfolding(crate::specs::Readers::sizeof))]
+    #[tactic(auto, unfolding(crate::specs::inner::Readers::sizeof))]
     fn sizeof(&self, tokens: &mut Cursor<'_>) -> Result<Operand, Failure>
         requires { Nests self.now.depth (F.pre self.now.expr) (F.post self.now.expr) (G.pre self.now.params) (G.post self.now.params) }
         ensures reads { Reads (reader.sizeof self.now.names.now (below self.now.names.now self.now.depth) tokens.old) result tokens.new }
@@ -234,7 +234,7 @@ where
     }
 
     /// What stands behind the `(` of a cast.
-    #[tactic(auto, unfolding(crate::specs::Readers::cast))]
+    #[tactic(auto, unfolding(crate::specs::inner::Readers::cast))]
     fn cast(&self, tokens: &mut Cursor<'_>) -> Result<Operand, Failure>
         requires { Nests self.now.depth (F.pre self.now.expr) (F.post self.now.expr) (G.pre self.now.params) (G.post self.now.params) }
         ensures reads { Reads (reader.cast self.now.names.now (below self.now.names.now self.now.depth) tokens.old) result tokens.new }
@@ -251,7 +251,7 @@ where
     }
 
     /// What stands behind a unary operator.
-    #[tactic(auto, unfolding(crate::specs::Readers::unary_behind))]
+    #[tactic(auto, unfolding(crate::specs::inner::Readers::unary_behind))]
     fn unary_behind(&self, tokens: &mut Cursor<'_>, op: UnaryOperator) -> Result<Operand, Failure>
         requires { Nests self.now.depth (F.pre self.now.expr) (F.post self.now.expr) (G.pre self.now.params) (G.post self.now.params) }
         ensures reads { Reads (reader.unary_behind self.now.names.now (below self.now.names.now self.now.depth) op tokens.old) result tokens.new }
@@ -262,7 +262,7 @@ where
     }
 
     /// What stands behind a mark that begins an expression.
-    #[tactic(auto, unfolding(crate::specs::Readers::prefix))]
+    #[tactic(auto, unfolding(crate::specs::inner::Readers::prefix))]
     fn prefix(&self, tokens: &mut Cursor<'_>, mark: Mark) -> Result<Operand, Failure>
         requires { Nests self.now.depth (F.pre self.now.expr) (F.post self.now.expr) (G.pre self.now.params) (G.post self.now.params) }
         ensures reads { Reads (reader.prefix self.now.names.now (below self.now.names.now self.now.depth) mark tokens.old) result tokens.new }
@@ -288,7 +288,7 @@ where
     }
 
     /// The front of an expression: a primary without parentheses, or a prefix and its operand.
-    #[tactic(auto, unfolding(crate::specs::Readers::head))]
+    #[tactic(auto, unfolding(crate::specs::inner::Readers::head))]
     fn head(&self, tokens: &mut Cursor<'_>) -> Result<Operand, Failure>
         requires { Nests self.now.depth (F.pre self.now.expr) (F.post self.now.expr) (G.pre self.now.params) (G.post self.now.params) }
         ensures reads { Reads (reader.head self.now.names.now (below self.now.names.now self.now.depth) tokens.old) result tokens.new }
@@ -317,7 +317,7 @@ where
     }
 
     /// An expression of this level or a tighter one.
-    #[tactic(auto, unfolding(crate::specs::Readers::level, crate::specs::Readers::level_in))]
+    #[tactic(auto, unfolding(crate::specs::inner::Readers::level, crate::specs::inner::Readers::level_in))]
     pub fn level(&self, tokens: &mut Cursor<'_>, least: usize) -> Result<(Expr, usize), Failure>
         requires { Nests self.now.depth (F.pre self.now.expr) (F.post self.now.expr) (G.pre self.now.params) (G.post self.now.params) }
         ensures reads { Reads (reader.level self.now.names.now (below self.now.names.now self.now.depth) (self.now.depth - 1) least tokens.old) result tokens.new }

@@ -2,9 +2,9 @@
 //! is proved by itself.
 
 ghost use Rattle.std.specs.Prelude.{◌≡◌, ◌≤◌, ◌<◌, ◌-◌, IfOk};
-ghost use Rattle.c_expr.specs.Nests.{Nests, below};
-ghost use Rattle.c_expr.specs.Readers.{readers};
-ghost use Rattle.c_expr.specs.Reads.{Reads};
+ghost use Rattle.c_expr.specs.inner.Nests.{Nests, below};
+ghost use Rattle.c_expr.specs.inner.Readers.{readers};
+ghost use Rattle.c_expr.specs.inner.Reads.{Reads};
 
 use crate::cursor::Cursor;
 use crate::error::Failure;
@@ -74,7 +74,7 @@ where
     }
 
     /// The rules of the depth below.
-    #[tactic(auto, using(crate::proofs::Depths::below_more))]
+    #[tactic(auto, using(crate::proofs::ReadersLemmas::below_more))]
     pub fn inner(&self) -> Grammar<'n, F, G>
         requires some { 0 < self.now.depth }
         requires nests { Nests self.now.depth (F.pre self.now.expr) (F.post self.now.expr) (G.pre self.now.params) (G.post self.now.params) }

@@ -6,13 +6,13 @@ mod cursor;
 mod declarators;
 mod error;
 mod expressions;
-mod front;
+mod lookahead;
 mod grammar;
-mod knot;
-mod laws;
+mod depths;
+mod theorems;
 mod level;
 mod longest;
-mod nameless;
+mod abstract_declarators;
 mod names;
 mod operand;
 mod specs;
@@ -20,8 +20,10 @@ mod suffixes;
 
 pub use cursor::Cursor;
 pub use error::Failure;
-pub use front::begins_spec;
-pub use knot::{declarator, expr, spec};
-pub use laws::{expressions_have_one_tree, readers_are_complete, readers_are_sound};
+pub use lookahead::begins_spec;
+pub use depths::{declarator, expr, spec};
+pub use theorems::{
+    expression_laws, expressions_have_one_tree, readers_are_complete, readers_are_sound,
+};
 pub use longest::expression;
 pub use names::Names;

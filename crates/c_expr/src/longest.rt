@@ -2,11 +2,11 @@
 
 ghost use Rattle.std.specs.Prelude.{◌≡◌, ◌-◌, ◌<◌, ◌≤◌, ◌^◌, length, drop, IfOk, IfSome, IfNone};
 ghost use Rattle.c_tree.specs.Marks.{kinds_of};
-ghost use Rattle.c_expr.specs.Laws.{IsLongestExpression, BeginsNoExpression};
+ghost use Rattle.c_expr.specs.Theorems.{IsLongestExpression, BeginsNoExpression};
 
 use crate::cursor::Cursor;
 use crate::error::Failure;
-use crate::knot::expr;
+use crate::depths::expr;
 use crate::level::ASSIGN_LEVEL;
 use crate::names::Names;
 use c_tokens::Tokens;

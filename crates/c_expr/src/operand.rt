@@ -1,5 +1,5 @@
 ghost use Rattle.std.specs.Prelude.{◌≡◌, ◌+◌, ◌<◌, ◌^◌, max, IfOk};
-ghost use Rattle.c_expr.specs.Readers as reader;
+ghost use Rattle.c_expr.specs.inner.Readers as reader;
 
 use crate::level::{ASSIGN_LEVEL, CONDITIONAL_LEVEL, POSTFIX_LEVEL, PRIMARY_LEVEL, binary_level};
 use c_tree::{AssignOperator, BinaryOperator, Expr};
@@ -102,7 +102,7 @@ fn with_part(left: Boxed<Expr>, part: Part) -> Expr
 }
 
 /// The operand with what goes on behind it, which is so high.
-#[tactic(auto, unfolding(crate::specs::Readers::extended))]
+#[tactic(auto, unfolding(crate::specs::inner::Readers::extended))]
 pub(crate) fn extended(
     alloc: Global,
     operand: Operand,
@@ -121,7 +121,7 @@ pub(crate) fn extended(
 }
 
 /// The operand in one more pair of parentheses.
-#[tactic(auto, unfolding(crate::specs::Readers::bracketed))]
+#[tactic(auto, unfolding(crate::specs::inner::Readers::bracketed))]
 pub(crate) fn bracketed(operand: Operand) -> Operand
     requires { operand.pairs < 2 ^ 32 }
     ensures is { result ≡ reader.bracketed operand }

@@ -1,15 +1,15 @@
 //! Specs, type words and parameters.
 
 ghost use Rattle.std.specs.Prelude.{◌≡◌, ◌≤◌, ◌<◌, ◌+◌, ◌-◌, IfOk};
-ghost use Rattle.c_expr.specs.Nests.{Nests, below};
-ghost use Rattle.c_expr.specs.Parser.{separated};
-ghost use Rattle.c_expr.specs.Readers as reader;
-ghost use Rattle.c_expr.specs.Readers.{readers};
-ghost use Rattle.c_expr.specs.Reads.{Reads};
+ghost use Rattle.c_expr.specs.inner.Nests.{Nests, below};
+ghost use Rattle.c_expr.specs.inner.Parser.{separated};
+ghost use Rattle.c_expr.specs.inner.Readers as reader;
+ghost use Rattle.c_expr.specs.inner.Readers.{readers};
+ghost use Rattle.c_expr.specs.inner.Reads.{Reads};
 
 use crate::cursor::{Cursor, is_word};
 use crate::error::Failure;
-use crate::front::{free_name, looks_named, name_of};
+use crate::lookahead::{free_name, looks_named, name_of};
 use crate::grammar::Grammar;
 use crate::names::Names;
 use c_tokens::{Keyword, Kind, Mark};
@@ -25,7 +25,7 @@ where
 {
     /// One line of a struct's body.
     #[cycle(spec)]
-    #[tactic(auto, unfolding(crate::specs::Readers::member))]
+    #[tactic(auto, unfolding(crate::specs::inner::Readers::member))]
     fn member(&self, tokens: &mut Cursor<'_>) -> Result<(MemberDecl, usize), Failure>
         requires nests { Nests self.now.depth (F.pre self.now.expr) (F.post self.now.expr) (G.pre self.now.params) (G.post self.now.params) }
         ensures reads { Reads (reader.member self.now.names.now (below self.now.names.now self.now.depth) tokens.old) result tokens.new }
@@ -63,7 +63,7 @@ where
 
     /// The body of the struct of this tag.
     #[cycle(spec)]
-    #[tactic(auto, unfolding(crate::specs::Readers::struct_body))]
+    #[tactic(auto, unfolding(crate::specs::inner::Readers::struct_body))]
     fn struct_body(&self, tokens: &mut Cursor<'_>, tag: Name) -> Result<(Spec, usize), Failure>
         requires nests { Nests self.now.depth (F.pre self.now.expr) (F.post self.now.expr) (G.pre self.now.params) (G.post self.now.params) }
         ensures reads { Reads (reader.struct_body self.now.names.now (below self.now.names.now self.now.depth) tag tokens.old) result tokens.new }
@@ -91,7 +91,7 @@ where
 
     /// What stands in front of a declarator. It may have bodies of structs, where `bodies` says so.
     #[cycle(spec)]
-    #[tactic(auto, using(crate::proofs::Fields::spec_at), unfolding(crate::specs::Readers::spec))]
+    #[tactic(auto, using(crate::proofs::Fields::spec_at), unfolding(crate::specs::inner::Readers::spec))]
     pub fn spec(&self, tokens: &mut Cursor<'_>, bodies: bool) -> Result<(Spec, usize), Failure>
         requires nests { Nests self.now.depth (F.pre self.now.expr) (F.post self.now.expr) (G.pre self.now.params) (G.post self.now.params) }
         ensures reads { Reads ((readers self.now.names.now self.now.depth).spec bodies tokens.old) result tokens.new }
@@ -117,7 +117,7 @@ where
     }
 
     /// A type in a cast or a `sizeof`.
-    #[tactic(auto, unfolding(crate::specs::Readers::type_word))]
+    #[tactic(auto, unfolding(crate::specs::inner::Readers::type_word))]
     fn type_word(&self, tokens: &mut Cursor<'_>) -> Result<(TypeWord, usize), Failure>
         requires nests { Nests self.now.depth (F.pre self.now.expr) (F.post self.now.expr) (G.pre self.now.params) (G.post self.now.params) }
         ensures reads { Reads ((readers self.now.names.now self.now.depth).type_word tokens.old) result tokens.new }
@@ -149,7 +149,7 @@ where
     }
 
     /// One parameter.
-    #[tactic(auto, unfolding(crate::specs::Readers::param))]
+    #[tactic(auto, unfolding(crate::specs::inner::Readers::param))]
     fn param(&self, tokens: &mut Cursor<'_>) -> Result<(Param, usize), Failure>
         requires nests { Nests self.now.depth (F.pre self.now.expr) (F.post self.now.expr) (G.pre self.now.params) (G.post self.now.params) }
         ensures reads { Reads (reader.param self.now.names.now (readers self.now.names.now self.now.depth).spec (readers self.now.names.now self.now.depth).declarator (readers self.now.names.now self.now.depth).abstract tokens.old) result tokens.new }
@@ -196,7 +196,7 @@ where
     }
 
     /// The parameters of a function, to before the closing parenthesis.
-    #[tactic(auto, unfolding(crate::specs::Readers::params))]
+    #[tactic(auto, unfolding(crate::specs::inner::Readers::params))]
     pub fn parameters(&self, tokens: &mut Cursor<'_>) -> Result<(Params, usize), Failure>
         requires nests { Nests self.now.depth (F.pre self.now.expr) (F.post self.now.expr) (G.pre self.now.params) (G.post self.now.params) }
         ensures reads { Reads ((readers self.now.names.now self.now.depth).params tokens.old) result tokens.new }

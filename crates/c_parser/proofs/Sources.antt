@@ -7,15 +7,15 @@ use Rattle.c_tree.specs.declared.statement.Unit.{Unit as Source}
 use Rattle.c_tree.specs.Marks.{Kinds, greatest_depth}
 use Rattle.c_tree.specs.Statements.{DeclReads, ItemReads, ItemsRead, SourceReads, IsSyntaxRefusal}
 use Rattle.c_tree.specs.Theorems.{DeclaratorsDeclareTheirNames}
-use Rattle.c_expr.specs.Parser.{Outcome}
-use Rattle.c_expr.specs.Laws.{ReadersAreSound, ReadersAreComplete}
-use Rattle.c_expr.proofs.Firsts.{SpecReads-begins}
-use Rattle.c_parser.specs.Readers.{item, Found, behind_item, items_from, source_of}
-use Rattle.c_parser.specs.Laws.{ItemsAreToldApart, SourcesHaveOneTree, RefusalsAreCertain}
-use Rattle.c_parser.proofs.Fronts.{begins_some}
-use Rattle.c_parser.proofs.SoundDecls.{join}
-use Rattle.c_parser.proofs.SoundItems.{ItemRead, item_sound}
-use Rattle.c_parser.proofs.TakenItems.{item_takes}
+use Rattle.c_expr.specs.inner.Parser.{Outcome}
+use Rattle.c_expr.specs.Theorems.{ReadersAreSound, ReadersAreComplete}
+use Rattle.c_expr.proofs.FirstTokensLemmas.{SpecReads-begins}
+use Rattle.c_parser.specs.inner.Readers.{item, Found, behind_item, items_from, source_of}
+use Rattle.c_parser.specs.Theorems.{ItemsAreToldApart, SourcesHaveOneTree, RefusalsAreCertain}
+use Rattle.c_parser.proofs.completeness.FirstTokens.{begins_some}
+use Rattle.c_parser.proofs.soundness.Declarations.{join}
+use Rattle.c_parser.proofs.soundness.Items.{ItemRead, item_sound}
+use Rattle.c_parser.proofs.completeness.Items.{item_takes}
 
 -- a text with some front is not empty
 some_front : (front behind ts : Kinds) → ts ≡ front ++ behind → 0 < length front → 0 < length ts

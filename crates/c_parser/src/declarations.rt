@@ -1,9 +1,9 @@
 //! Initialisers and declarations.
 
 ghost use Rattle.std.specs.Prelude.{◌≡◌, ◌≤◌, ◌<◌, ◌^◌, IfOk};
-ghost use Rattle.c_expr.specs.Readers.{readers};
-ghost use Rattle.c_expr.specs.Reads.{Reads};
-ghost use Rattle.c_parser.specs.Readers as reader;
+ghost use Rattle.c_expr.specs.inner.Readers.{readers};
+ghost use Rattle.c_expr.specs.inner.Reads.{Reads};
+ghost use Rattle.c_parser.specs.inner.Readers as reader;
 
 use c_expr::{Cursor, Failure, Names, begins_spec, declarator, expr, spec};
 use c_tokens::Mark;
@@ -15,7 +15,7 @@ use std::alloc::Global;
 pub(crate) const ASSIGN_LEVEL: usize = 0;
 
 /// An expression of a statement.
-#[tactic(auto, unfolding(crate::specs::Readers::full_expr))]
+#[tactic(auto, unfolding(crate::specs::inner::Readers::full_expr))]
 fn full_expr(
     alloc: Global,
     names: &Names,
@@ -32,7 +32,7 @@ fn full_expr(
 }
 
 /// An expression, if one stands before the mark, and the mark.
-#[tactic(auto, unfolding(crate::specs::Readers::option_to))]
+#[tactic(auto, unfolding(crate::specs::inner::Readers::option_to))]
 pub(crate) fn option_to(
     alloc: Global,
     names: &Names,
@@ -53,7 +53,7 @@ pub(crate) fn option_to(
 }
 
 /// The condition and the step of a `for`, and the closing parenthesis.
-#[tactic(auto, unfolding(crate::specs::Readers::for_tests))]
+#[tactic(auto, unfolding(crate::specs::inner::Readers::for_tests))]
 pub(crate) fn for_tests(
     alloc: Global,
     names: &Names,
@@ -70,7 +70,7 @@ pub(crate) fn for_tests(
 }
 
 /// An expression in parentheses.
-#[tactic(auto, unfolding(crate::specs::Readers::condition))]
+#[tactic(auto, unfolding(crate::specs::inner::Readers::condition))]
 pub(crate) fn condition(
     alloc: Global,
     names: &Names,
@@ -123,7 +123,7 @@ pub(crate) fn init(
 }
 
 /// A declarator that was read, with its initialiser, if it has one.
-#[tactic(auto, unfolding(crate::specs::Readers::with_init))]
+#[tactic(auto, unfolding(crate::specs::inner::Readers::with_init))]
 fn with_init(
     alloc: Global,
     names: &Names,
@@ -181,7 +181,7 @@ fn declared(
 }
 
 /// A declaration from its first declarator on, which was read, as its spec was.
-#[tactic(auto, unfolding(crate::specs::Readers::decl_of))]
+#[tactic(auto, unfolding(crate::specs::inner::Readers::decl_of))]
 pub(crate) fn decl_of(
     alloc: Global,
     names: &Names,
@@ -203,7 +203,7 @@ pub(crate) fn decl_of(
 }
 
 /// A declaration.
-#[tactic(auto, unfolding(crate::specs::Readers::decl))]
+#[tactic(auto, unfolding(crate::specs::inner::Readers::decl))]
 pub(crate) fn decl(
     alloc: Global,
     names: &Names,
@@ -224,7 +224,7 @@ pub(crate) fn decl(
 }
 
 /// What a `for` begins with, with its `;`.
-#[tactic(auto, unfolding(crate::specs::Readers::for_init))]
+#[tactic(auto, unfolding(crate::specs::inner::Readers::for_init))]
 pub(crate) fn for_init(
     alloc: Global,
     names: &Names,

@@ -1,5 +1,5 @@
 ghost use Rattle.std.specs.Prelude.{◌≡◌};
-ghost use Rattle.c_parser.specs.Readers as reader;
+ghost use Rattle.c_parser.specs.inner.Readers as reader;
 
 use c_tokens::{Keyword, Kind, Mark};
 

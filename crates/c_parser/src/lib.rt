@@ -5,14 +5,14 @@ mod declarations;
 mod error;
 mod form;
 mod items;
-mod knot;
-mod laws;
+mod depths;
+mod theorems;
 mod source;
 mod statements;
 mod words;
 
 pub use error::ParseRefusal;
-pub use laws::{
+pub use theorems::{
     items_are_told_apart, refusals_are_certain, sources_have_one_tree, texts_have_one_tree,
 };
 pub use source::parse;

@@ -5,8 +5,8 @@ ghost use Rattle.c_tree.specs.declared.statement.Unit.{Unit as Source};
 ghost use Rattle.c_tree.specs.Marks.{kinds_of};
 ghost use Rattle.c_tree.specs.Statements.{SourceReads, IsSyntaxRefusal};
 ghost use Rattle.c_parser.specs.declared.error.ParseRefusal.TheVariants.{Syntax};
-ghost use Rattle.c_parser.specs.Laws.{IsAnswer};
-ghost use Rattle.c_parser.specs.Readers as reader;
+ghost use Rattle.c_parser.specs.Theorems.{IsAnswer};
+ghost use Rattle.c_parser.specs.inner.Readers as reader;
 
 use crate::error::ParseRefusal;
 use crate::items::item;

@@ -2,11 +2,11 @@
 //! proved by itself.
 
 ghost use Rattle.std.specs.Prelude.{◌≡◌, ◌≤◌, ◌<◌, ◌+◌, ◌^◌, IfOk};
-ghost use Rattle.c_expr.specs.Readers.{readers};
-ghost use Rattle.c_expr.specs.Reads.{Reads};
-ghost use Rattle.c_parser.specs.Nests.{Nests};
-ghost use Rattle.c_parser.specs.Readers as reader;
-ghost use Rattle.c_parser.specs.Readers.{of_depth};
+ghost use Rattle.c_expr.specs.inner.Readers.{readers};
+ghost use Rattle.c_expr.specs.inner.Reads.{Reads};
+ghost use Rattle.c_parser.specs.inner.Nests.{Nests};
+ghost use Rattle.c_parser.specs.inner.Readers as reader;
+ghost use Rattle.c_parser.specs.inner.Readers.{of_depth};
 
 use crate::declarations::{condition, decl, for_init, for_tests, option_to};
 use crate::form::{Form, form_of};
@@ -29,7 +29,7 @@ pub(crate) struct Rules<'n, F> {
 }
 
 /// What stands behind a `break`.
-#[tactic(auto, unfolding(crate::specs::Readers::ended))]
+#[tactic(auto, unfolding(crate::specs::inner::Readers::ended))]
 fn break_behind(tokens: &mut Cursor<'_>) -> Result<(Stmt, usize), Failure>
     ensures reads { Reads (reader.ended Stmt.Break tokens.old) result tokens.new }
     ensures tall { IfOk result (λ s. s.1 ≡ 1) }
@@ -39,7 +39,7 @@ fn break_behind(tokens: &mut Cursor<'_>) -> Result<(Stmt, usize), Failure>
 }
 
 /// What stands behind a `continue`.
-#[tactic(auto, unfolding(crate::specs::Readers::ended))]
+#[tactic(auto, unfolding(crate::specs::inner::Readers::ended))]
 fn continue_behind(tokens: &mut Cursor<'_>) -> Result<(Stmt, usize), Failure>
     ensures reads { Reads (reader.ended Stmt.Continue tokens.old) result tokens.new }
     ensures tall { IfOk result (λ s. s.1 ≡ 1) }
@@ -94,7 +94,7 @@ where
     }
 
     /// A declaration or a statement of a block.
-    #[tactic(auto, unfolding(crate::specs::Readers::block_item))]
+    #[tactic(auto, unfolding(crate::specs::inner::Readers::block_item))]
     fn block_item(&self, tokens: &mut Cursor<'_>) -> Result<(BlockItem, usize), Failure>
         requires { Nests self.now.depth (F.pre self.now.stmt) (F.post self.now.stmt) }
         ensures reads { Reads (of_depth reader.block_item self.now.names.now self.now.depth tokens.old) result tokens.new }
@@ -128,7 +128,7 @@ where
     }
 
     /// A block.
-    #[tactic(auto, unfolding(crate::specs::Readers::block))]
+    #[tactic(auto, unfolding(crate::specs::inner::Readers::block))]
     pub fn block(&self, tokens: &mut Cursor<'_>) -> Result<(Block, usize), Failure>
         requires { Nests self.now.depth (F.pre self.now.stmt) (F.post self.now.stmt) }
         ensures reads { Reads (of_depth reader.block self.now.names.now self.now.depth tokens.old) result tokens.new }
@@ -140,7 +140,7 @@ where
     }
 
     /// What stands behind an `if`. It takes an `else` that comes.
-    #[tactic(auto, unfolding(crate::specs::Readers::if_behind))]
+    #[tactic(auto, unfolding(crate::specs::inner::Readers::if_behind))]
     fn if_behind(&self, tokens: &mut Cursor<'_>) -> Result<(Stmt, usize), Failure>
         requires { Nests self.now.depth (F.pre self.now.stmt) (F.post self.now.stmt) }
         ensures reads { Reads (of_depth reader.if_behind self.now.names.now self.now.depth tokens.old) result tokens.new }
@@ -167,7 +167,7 @@ where
     }
 
     /// What stands behind a `while`.
-    #[tactic(auto, unfolding(crate::specs::Readers::while_behind))]
+    #[tactic(auto, unfolding(crate::specs::inner::Readers::while_behind))]
     fn while_behind(&self, tokens: &mut Cursor<'_>) -> Result<(Stmt, usize), Failure>
         requires { Nests self.now.depth (F.pre self.now.stmt) (F.post self.now.stmt) }
         ensures reads { Reads (of_depth reader.while_behind self.now.names.now self.now.depth tokens.old) result tokens.new }
@@ -179,7 +179,7 @@ where
     }
 
     /// What stands behind a `do`.
-    #[tactic(auto, unfolding(crate::specs::Readers::do_behind))]
+    #[tactic(auto, unfolding(crate::specs::inner::Readers::do_behind))]
     fn do_behind(&self, tokens: &mut Cursor<'_>) -> Result<(Stmt, usize), Failure>
         requires { Nests self.now.depth (F.pre self.now.stmt) (F.post self.now.stmt) }
         ensures reads { Reads (of_depth reader.do_behind self.now.names.now self.now.depth tokens.old) result tokens.new }
@@ -193,7 +193,7 @@ where
     }
 
     /// What stands behind a `for`.
-    #[tactic(auto, unfolding(crate::specs::Readers::for_behind))]
+    #[tactic(auto, unfolding(crate::specs::inner::Readers::for_behind))]
     fn for_behind(&self, tokens: &mut Cursor<'_>) -> Result<(Stmt, usize), Failure>
         requires { Nests self.now.depth (F.pre self.now.stmt) (F.post self.now.stmt) }
         ensures reads { Reads (of_depth reader.for_behind self.now.names.now self.now.depth tokens.old) result tokens.new }
@@ -219,7 +219,7 @@ where
     }
 
     /// What stands behind a `return`.
-    #[tactic(auto, unfolding(crate::specs::Readers::return_behind))]
+    #[tactic(auto, unfolding(crate::specs::inner::Readers::return_behind))]
     fn return_behind(&self, tokens: &mut Cursor<'_>) -> Result<(Stmt, usize), Failure>
         requires { Nests self.now.depth (F.pre self.now.stmt) (F.post self.now.stmt) }
         ensures reads { Reads (of_depth reader.return_behind self.now.names.now self.now.depth tokens.old) result tokens.new }
@@ -230,7 +230,7 @@ where
     }
 
     /// An expression and a semicolon, or a semicolon alone.
-    #[tactic(auto, unfolding(crate::specs::Readers::computes))]
+    #[tactic(auto, unfolding(crate::specs::inner::Readers::computes))]
     fn computes(&self, tokens: &mut Cursor<'_>) -> Result<(Stmt, usize), Failure>
         requires { Nests self.now.depth (F.pre self.now.stmt) (F.post self.now.stmt) }
         ensures reads { Reads (of_depth reader.computes self.now.names.now self.now.depth tokens.old) result tokens.new }
@@ -241,7 +241,7 @@ where
     }
 
     /// A statement, one deeper.
-    #[tactic(auto, unfolding(crate::specs::Readers::stmt_over))]
+    #[tactic(auto, unfolding(crate::specs::inner::Readers::stmt_over))]
     pub fn statement(&self, tokens: &mut Cursor<'_>) -> Result<(Stmt, usize), Failure>
         requires { Nests self.now.depth (F.pre self.now.stmt) (F.post self.now.stmt) }
         ensures reads { Reads (of_depth reader.stmt_over self.now.names.now self.now.depth tokens.old) result tokens.new }

@@ -2,10 +2,10 @@ use Rattle.std.proofs.Common.{◌≡◌, drop, Some, None, ap, ◌∙◌, rules,
 use Rattle.std.proofs.lemmas.Grind.{common_steps}
 use Rattle.std.proofs.lemmas.List.{take_rest}
 use Rattle.c_tree.specs.Marks.{kinds_of}
-use Rattle.c_expr.specs.Readers.{readers}
-use Rattle.c_expr.proofs.Complete.{readers_read_furthest}
-use Rattle.c_expr.proofs.LongestFronts.{longest_at, none_at, none_behind, leaves_inside, read_by}
-use Rattle.c_expr.proofs.Sound.{readers_are_sound}
+use Rattle.c_expr.specs.inner.Readers.{readers}
+use Rattle.c_expr.proofs.completeness.ReadersAreComplete.{readers_read_furthest}
+use Rattle.c_expr.proofs.completeness.LongestExpressions.{longest_at, none_at, none_behind, leaves_inside, read_by}
+use Rattle.c_expr.proofs.soundness.ReadersAreSound.{readers_are_sound}
 use Rattle.c_expr.proofs.longest.expression.Goals as goal
 
 pub returns-then-place-len-clause-none : goal.returns-then-place-len-clause-none

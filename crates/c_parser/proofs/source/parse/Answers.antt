@@ -1,8 +1,8 @@
 use Rattle.std.proofs.Common.{◌≡◌, Ok, Err, inl, sym, ap, subst, ◌∙◌}
 use Rattle.c_tree.specs.Marks.{kinds_of}
 use Rattle.c_tree.specs.Statements.{SourceReads, IsSyntaxRefusal}
-use Rattle.c_expr.proofs.Complete.{readers_are_complete}
-use Rattle.c_expr.proofs.Sound.{readers_are_sound}
+use Rattle.c_expr.proofs.completeness.ReadersAreComplete.{readers_are_complete}
+use Rattle.c_expr.proofs.soundness.ReadersAreSound.{readers_are_sound}
 use Rattle.c_parser.specs.declared.error.ParseRefusal.TheVariants.{Syntax}
 use Rattle.c_parser.proofs.Sources.{answer_found, answer_only, answer_whole, answer_refused, answer_no_source, answer_count}
 use Rattle.c_parser.proofs.source.parse.Goals as goal

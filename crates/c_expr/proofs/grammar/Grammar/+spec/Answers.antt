@@ -1,8 +1,8 @@
 use Rattle.std.proofs.Common.{ap, rules, arith}
 use Rattle.std.proofs.lemmas.Grind.{common_steps}
-use Rattle.c_expr.specs.Nests.{below}
-use Rattle.c_expr.specs.Readers as reader
-use Rattle.c_expr.specs.Readers.{members, members_from}
+use Rattle.c_expr.specs.inner.Nests.{below}
+use Rattle.c_expr.specs.inner.Readers as reader
+use Rattle.c_expr.specs.inner.Readers.{members, members_from}
 use Rattle.c_expr.proofs.Depths.{below_zero}
 use Rattle.c_expr.proofs.Turns.{next_turn, last_turn}
 use Rattle.c_expr.proofs.grammar.Grammar.+spec.Goals as goal

@@ -1,7 +1,7 @@
 use Rattle.std.proofs.Common.{rules, arith, ◌-◌}
 use Rattle.std.proofs.lemmas.Grind.{common_steps}
-use Rattle.c_expr.specs.Nests.{below}
-use Rattle.c_expr.specs.Readers.{closed}
+use Rattle.c_expr.specs.inner.Nests.{below}
+use Rattle.c_expr.specs.inner.Readers.{closed}
 use Rattle.c_expr.proofs.Turns.{next_turn, last_turn}
 use Rattle.c_expr.proofs.grammar.Grammar.closed.Goals as goal
 
