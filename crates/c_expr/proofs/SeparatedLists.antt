@@ -1,11 +1,12 @@
--- Lists of items: one after another with commas between, or each with its own front.
-use Rattle.std.proofs.Common.{◌≡◌, ◌≢◌, ℕ, zero, suc, ◌<◌, ◌≤◌, max, List, [], ◌∷◌, ◌++◌, length, Some, refl, ap, ◌∙◌, arith, append_assoc, length-append}
+-- Items with commas between: what the reader of such a list answers, and that it answers each such list.
+use Rattle.std.proofs.Common.{◌≡◌, ◌≢◌, ℕ, zero, suc, ◌<◌, ◌≤◌, max, List, [], ◌∷◌, ◌++◌, length, Some, refl, sym, ap, ◌∙◌, arith, append_assoc, length-append}
 use Rattle.c_tokens.specs.declared.token.Kind.TheVariants.{Mark}
 use Rattle.c_tokens.specs.declared.token.Mark.TheVariants as mark
 use Rattle.c_tree.specs.Marks.{Kinds}
 use Rattle.c_expr.specs.inner.Parser.{Parser, Tall, Outcome, separated_from, separated}
-use Rattle.c_expr.specs.Theorems.{Takes, Lacks}
-use Rattle.c_expr.proofs.Steps.{sees_is, after_is, after_other}
+use Rattle.c_expr.specs.Theorems.{ReadsOnly, Takes, Lacks}
+use Rattle.c_expr.specs.inner.ParserLemmas.{sees_is, after_is, after_other, Found, eaten, found_all, found_then, join}
+use Rattle.c_expr.proofs.soundness.Chains.{max_low, pure_parts, push, tree_answer}
 
 -- at least one item, with commas between; the height is the greatest of theirs
 pub data SeparatedRead {A : Type 0} (R : ℕ → Kinds → A → Type 0) : ℕ → Kinds → List A → Type 0 where
@@ -34,11 +35,6 @@ item_before : {A : Type 0} (p : Parser (Tall A)) (n : ℕ) (found : List A) (hei
 unfolding separated_from
 item_before p n found height h ts rest x is = rw is (rw (sees_is mark.Comma rest) (rw (after_is mark.Comma rest)))
 
--- what was found before, and the greatest height of all
-pub found_then : {A : Type 0} (found others : List A) (x : A) (a b c : ℕ) (rest : Kinds)
-    → ◌≡◌ {A = Outcome (Tall (List A))} (Some (((found ++ x ∷ []) ++ others, max (max a b) c), rest)) (Some ((found ++ (x ∷ others), max a (max b c)), rest))
-found_then found others x a b c rest = let high : max (max a b) c ≡ max a (max b c) = omega arith in rw (append_assoc found (x ∷ []) others, high)
-
 separated_from_takes : {A : Type 0} {R : ℕ → Kinds → A → Type 0} {p : Parser (Tall A)} {Stop : Kinds → Type 0} {depth : ℕ} → TakesItems R p Stop depth → {h : ℕ} {ts : Kinds} {xs : List A} → SeparatedRead R h ts xs → h ≤ depth
     → (rest : Kinds) → Stop rest → Lacks mark.Comma rest → (fuel : ℕ) → length ts ≤ fuel → (found : List A) (height : ℕ) → separated_from p fuel found height (ts ++ rest) ≡ Some ((found ++ xs, max height h), rest)
 separated_from_takes {p = p} items (SeparatedRead.one_item h ts xs x xi read) deep rest stop lacks fuel enough found height =
@@ -59,3 +55,29 @@ separated_takes {p = p} items {h} {ts} {xs} read deep rest stop lacks =
     let all = separated_from_takes items read deep rest stop lacks (length (ts ++ rest)) (let l = length-append ts rest in omega arith) [] 0 in
     let high : max 0 h ≡ h = omega arith in
     all ∙ ap (λ k. Some ((xs, k), rest)) high
+
+-- ---- what the reader answers
+
+module _ {A : Type 0} (R : ℕ → Kinds → A → Type 0) (item : Parser (Tall A)) (depth : ℕ) (reads : ReadsOnly item depth R) where
+  pub separated_from_found : (n : ℕ) (found : List A) (h : ℕ) (ts : Kinds) (all : List A) (H : ℕ) (rest : Kinds) → separated_from item n found h ts ≡ Some ((all, H), rest) → Found (λ h ts xs. SeparatedRead R h ts xs) depth found h ts all H rest
+  unfolding separated_from
+  separated_from_found zero found h ts all H rest is = cc
+  separated_from_found (suc n) found h ts all H rest is =
+      tree_answer item reads ts _ _ is (λ x hx ks prefix split low here more.
+      eaten mark.Comma ks _ _ _ more
+      (λ ls comma on. let o = separated_from_found n (found ++ x ∷ []) (max h hx) ls all H rest on in (
+        x ∷ o.0,
+        max hx o.1,
+        prefix ++ Mark mark.Comma ∷ o.2,
+        o.3 ∙ append_assoc found (x ∷ []) o.0,
+        omega (arith, o.4),
+        join prefix (Mark mark.Comma ∷ o.2) rest split (push o.2 rest comma o.5),
+        max_low _ _ _ low o.6,
+        SeparatedRead.more_items _ _ _ x o.0 hx o.1 prefix o.2 refl refl refl here o.7,
+      ))
+      (λ none last. let l = pure_parts _ _ _ _ _ last in
+      (x ∷ [], hx, prefix, l.0, l.1, split ∙ ap (λ us. prefix ++ us) (sym l.2), low, SeparatedRead.one_item _ _ _ x refl here)))
+
+  pub separated_found : ReadsOnly (separated item) depth (λ h ts xs. SeparatedRead R h ts xs)
+  unfolding separated
+  separated_found ts all H rest is = found_all (separated_from_found (length ts) [] 0 ts all H rest is)

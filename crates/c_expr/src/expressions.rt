@@ -8,12 +8,12 @@ ghost use Rattle.c_expr.specs.inner.Reads.{Reads};
 
 use crate::cursor::Cursor;
 use crate::error::Failure;
-use crate::lookahead::{free_name, name_of, opened, opens_type};
 use crate::grammar::Grammar;
 use crate::level::{
     ASSIGN_LEVEL, CAST_LEVEL, CONDITIONAL_LEVEL, GREATEST_PAIRS, UNARY_LEVEL, binary_level,
     continuation, left_level, whole_level,
 };
+use crate::lookahead::{free_name, name_of, opened, opens_type};
 use crate::names::Names;
 use crate::operand::{Continuation, Operand, Part, bracketed, extended};
 use c_tokens::{Keyword, Kind, Mark};
@@ -262,10 +262,10 @@ where
     }
 
     /// What stands behind a mark that begins an expression.
-    #[tactic(auto, unfolding(crate::specs::inner::Readers::prefix))]
-    fn prefix(&self, tokens: &mut Cursor<'_>, mark: Mark) -> Result<Operand, Failure>
+    #[tactic(auto, unfolding(crate::specs::inner::Readers::prefixed))]
+    fn prefixed(&self, tokens: &mut Cursor<'_>, mark: Mark) -> Result<Operand, Failure>
         requires { Nests self.now.depth (F.pre self.now.expr) (F.post self.now.expr) (G.pre self.now.params) (G.post self.now.params) }
-        ensures reads { Reads (reader.prefix self.now.names.now (below self.now.names.now self.now.depth) mark tokens.old) result tokens.new }
+        ensures reads { Reads (reader.prefixed self.now.names.now (below self.now.names.now self.now.depth) mark tokens.old) result tokens.new }
         ensures tall { IfOk result (λ o. o.height ≤ 1 + (self.now.depth - 1)) }
     {
         match mark {
@@ -287,7 +287,7 @@ where
         }
     }
 
-    /// The front of an expression: a primary without parentheses, or a prefix and its operand.
+    /// What begins an expression: a primary without parentheses, or a prefix operator and its operand.
     #[tactic(auto, unfolding(crate::specs::inner::Readers::head))]
     fn head(&self, tokens: &mut Cursor<'_>) -> Result<Operand, Failure>
         requires { Nests self.now.depth (F.pre self.now.expr) (F.post self.now.expr) (G.pre self.now.params) (G.post self.now.params) }
@@ -312,7 +312,7 @@ where
             }
             Kind::Word(Keyword::Sizeof) => self.sizeof(tokens),
             Kind::Word(_) => Err(Failure::Mismatch),
-            Kind::Mark(mark) => self.prefix(tokens, *mark),
+            Kind::Mark(mark) => self.prefixed(tokens, *mark),
         }
     }
 

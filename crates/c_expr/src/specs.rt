@@ -9,8 +9,8 @@ ghost use Rattle.c_expr.specs.inner.Reads.{Reads};
 
 use crate::cursor::{Cursor, is_word};
 use crate::error::Failure;
-use crate::lookahead::{free_name, looks_named, name_of};
 use crate::grammar::Grammar;
+use crate::lookahead::{free_name, looks_named, name_of};
 use crate::names::Names;
 use c_tokens::{Keyword, Kind, Mark};
 use c_tree::{Expr, MemberDecl, Param, Params, Spec, TypeWord};
@@ -91,7 +91,7 @@ where
 
     /// What stands in front of a declarator. It may have bodies of structs, where `bodies` says so.
     #[cycle(spec)]
-    #[tactic(auto, using(crate::proofs::Fields::spec_at), unfolding(crate::specs::inner::Readers::spec))]
+    #[tactic(auto, using(crate::proofs::ReadersLemmas::spec_at), unfolding(crate::specs::inner::Readers::spec))]
     pub fn spec(&self, tokens: &mut Cursor<'_>, bodies: bool) -> Result<(Spec, usize), Failure>
         requires nests { Nests self.now.depth (F.pre self.now.expr) (F.post self.now.expr) (G.pre self.now.params) (G.post self.now.params) }
         ensures reads { Reads ((readers self.now.names.now self.now.depth).spec bodies tokens.old) result tokens.new }

@@ -1,4 +1,4 @@
--- The smallest steps of the readers, each way: what an answer says of each link of a chain, and what a chain of answers comes to.
+-- What answers of the links of a chain come to, and the words that come in a chain.
 use Rattle.std.proofs.Common.{◌≡◌, ℕ, Bool, true, false, if◌then◌else◌, [], ◌∷◌, Some, None, refl, ap, subst, ◌∙◌}
 use denote.Enum.Bare.{true_same}
 use Rattle.c_tokens.specs.contracts.token.Keyword.{the_type as the_keywords}
@@ -7,39 +7,12 @@ use Rattle.c_tokens.specs.declared.token.Kind.TheVariants.{Word, Name, Number, T
 use Rattle.c_tokens.specs.declared.token.Mark.{Mark as MarkName}
 use Rattle.c_tree.specs.Marks.{Kinds}
 use Rattle.c_expr.specs.inner.Parser.{Parser, Outcome, Tall, and_then, same_word, sees, behind, after, expect}
-use Rattle.c_expr.proofs.Steps.{same_word_true, sees_is, sees_true, after_is, after_other, expect_is, expect_some}
+use Rattle.c_expr.specs.inner.ParserLemmas.{same_word_true, sees_is, sees_true, after_is, after_other, expect_is, expect_some, both_answer, same_word_is}
 use Rattle.c_parser.specs.inner.Readers.{sees_word, after_word, expect_word}
 
--- ---- what an answer says
-
--- a chain that answers has an answer of its first link
-pub answered : {A B C : Type 0} (o : Outcome A) (f : A → Parser B) (q : B × Kinds) → and_then o f ≡ Some q → ((x : A) (ks : Kinds) → o ≡ Some (x, ks) → f x ks ≡ Some q → C) → C
-answered (Some p) f q is go = go p.0 p.1 refl is
-answered None f q is go = absurd (cc)
-
+-- an answer of two readers, of which the first reads trees, is one of the first, and of the second behind it
 pub tall_answered : {A B C : Type 0} (o : Outcome (Tall A)) (f : Tall A → Parser B) (q : B × Kinds) → and_then o f ≡ Some q → ((x : A) (h : ℕ) (ks : Kinds) → o ≡ Some ((x, h), ks) → f (x, h) ks ≡ Some q → C) → C
-tall_answered o f q is go = answered o f q is (λ x ks. go x.0 x.1 ks)
-
--- what is read at the end of a chain is the answer
-pub answer : {A : Type 0} {p q : A × Kinds} (C : A → Kinds → Type 0) → Some p ≡ Some q → C p.0 p.1 → C q.0 q.1
-answer {A} {p} {q} C is here = let same : p ≡ q = cc in subst (λ r. C r.0 r.1) same here
-
-pub tested : {A C : Type 0} (b : Bool) (x y z : A) → (if b then x else y) ≡ z → (b ≡ true → x ≡ z → C) → (b ≡ false → y ≡ z → C) → C
-tested true x y z is came lacks = came refl is
-tested false x y z is came lacks = lacks refl is
-
-eaten_by : {A C : Type 0} (m : MarkName) (ts : Kinds) (b : Bool) (p q : Parser A) (z : Outcome A) → sees m ts ≡ b → (if b then p else q) (after m ts) ≡ z
-    → ((ks : Kinds) → ts ≡ Mark m ∷ ks → p ks ≡ z → C) → (sees m ts ≡ false → q ts ≡ z → C) → C
-eaten_by m ts true p q z seen is came lacks = let found = sees_true m ts seen in came found.0 found.1 (subst (λ ks. p ks ≡ z) (ap (λ ks. after m ks) found.1 ∙ after_is m found.0) is)
-eaten_by m ts false p q z seen is came lacks = lacks seen (subst (λ ks. q ks ≡ z) (after_other m ts seen) is)
-
--- the mark comes and is taken, or it doesn't come and nothing is
-pub eaten : {A C : Type 0} (m : MarkName) (ts : Kinds) (p q : Parser A) (z : Outcome A) → (if sees m ts then p else q) (after m ts) ≡ z
-    → ((ks : Kinds) → ts ≡ Mark m ∷ ks → p ks ≡ z → C) → (sees m ts ≡ false → q ts ≡ z → C) → C
-eaten m ts p q z is came lacks = eaten_by m ts (sees m ts) p q z refl is came lacks
-
-pub expected : {A C : Type 0} (m : MarkName) (ts : Kinds) (f : Unit {0} → Parser A) (q : A × Kinds) → and_then (expect m ts) f ≡ Some q → ((ks : Kinds) → ts ≡ Mark m ∷ ks → f tt ks ≡ Some q → C) → C
-expected m ts f q is go = answered (expect m ts) f q is (λ u ks found. go ks (expect_some m ts u ks found))
+tall_answered o f q is go = both_answer o f q is (λ x ks. go x.0 x.1 ks)
 
 -- ---- what answers come to
 
@@ -61,11 +34,7 @@ leaves m ts p q z not here = rw (after_other m ts not, not) here
 pub expects : {A : Type 0} (m : MarkName) (ks : Kinds) (f : Unit {0} → Parser A) (z : Outcome A) → f tt ks ≡ z → and_then (expect m (Mark m ∷ ks)) f ≡ z
 expects m ks f z here = rw (expect_is m ks) here
 
--- ---- words, likewise
-
-pub same_word_is : (w : Keyword) → same_word w w ≡ true
-unfolding same_word
-same_word_is w = true_same the_keywords w w refl
+-- ---- words
 
 sees_word_true : (w : Keyword) (ts : Kinds) → sees_word w ts ≡ true → (ks : Kinds) × (ts ≡ Word w ∷ ks)
 sees_word_true w [] is = cc

@@ -1,4 +1,4 @@
--- The readers of a depth, by those of the depth below, and loops that count up beside readers that count down.
+-- The readers of a depth, by those of the depth below.
 use Rattle.std.proofs.Common.{◌≡◌, ℕ, suc, ◌+◌, ◌-◌, ◌<◌, ◌≤◌, List, [], None, true, false, length, refl, ap, ◌∙◌, arith}
 use Rattle.c_tokens.specs.declared.token.Mark.TheVariants as mark
 use Rattle.c_tree.specs.declared.statement.Init.{Init}
@@ -7,14 +7,6 @@ use Rattle.c_tree.specs.Marks.{Kinds, assign_level}
 use Rattle.c_expr.specs.inner.Parser.{Outcome, Tall, and_then, pure, sees, after}
 use Rattle.c_expr.specs.inner.Readers.{readers}
 use Rattle.c_parser.specs.inner.Readers.{stmt, stmt_over, of_depth, init, init_over, braces, inits_from}
-
--- a turn is left
-pub next_turn : {X : Type 0} {x : X} (f : ℕ → X) (turns at : ℕ) → at < turns → x ≡ f (turns - at) → x ≡ f (suc (turns - (at + 1)))
-next_turn f turns at below is = let e : turns - at ≡ suc (turns - (at + 1)) = omega arith in is ∙ ap f e
-
--- no turn is left
-pub last_turn : {X : Type 0} {x : X} (f : ℕ → X) (turns at : ℕ) → turns ≤ at → x ≡ f (turns - at) → x ≡ f 0
-last_turn f turns at done is = let e : turns - at ≡ 0 = omega arith in is ∙ ap f e
 
 -- initialisers in braces are one
 abbrev pub braced : Outcome (Tall (List Init)) → Outcome (Tall Init)

@@ -1,12 +1,10 @@
 -- What one text can be: at most one item begins it, and it is one source at most, or none.
-use Rattle.std.specs.Prelude.{◌≡◌, ℕ, ◌≤◌, ◌⊎◌, List, ◌++◌, Result, Err}
+use Rattle.std.specs.Prelude.{◌≡◌, ℕ, ◌≤◌, List, ◌++◌}
 use Rattle.c_tree.specs.declared.statement.Item.{Item}
 use Rattle.c_tree.specs.declared.statement.Unit.{Unit as Source}
 use Rattle.c_tree.specs.Marks.{Kinds, greatest_depth}
 use Rattle.c_tree.specs.RoundTrip.{IsTextOf}
 use Rattle.c_tree.specs.Statements.{ItemReads, SourceReads, IsSyntaxRefusal}
-use Rattle.c_parser.specs.declared.error.ParseRefusal.{ParseRefusal}
-use Rattle.c_parser.specs.declared.error.ParseRefusal.TheVariants.{Memory}
 
 -- whatever follows, the tokens begin with one item at most
 abbrev pub ItemsAreToldApart : Type 0
@@ -23,7 +21,3 @@ TextsHaveOneTree = (text : List ℕ) (a b : Source) → IsTextOf a text → IsTe
 -- a refusal stands behind one number of items, and no source has the tokens
 abbrev pub RefusalsAreCertain : Type 0
 RefusalsAreCertain = (ts : Kinds) (count : ℕ) → IsSyntaxRefusal ts count → ((other : ℕ) → IsSyntaxRefusal ts other → other ≡ count) × ((source : Source) → SourceReads ts source → ⊥)
-
--- an answer but for want of memory
-abbrev pub IsAnswer : Result Source ParseRefusal → Result Source ParseRefusal → Type 0
-IsAnswer result answer = (result ≡ answer) ⊎ (result ≡ Err Memory)

@@ -2,6 +2,7 @@
 
 ghost use Rattle.c_parser.specs.Theorems.{ItemsAreToldApart, SourcesHaveOneTree, TextsHaveOneTree, RefusalsAreCertain};
 
+use c_expr::expression_laws;
 use c_tokens::texts_have_one_answer;
 use c_tree::declarators_declare_their_names;
 
@@ -9,6 +10,7 @@ use c_tree::declarators_declare_their_names;
 pub fn items_are_told_apart()
     ensures { ItemsAreToldApart }
 {
+    expression_laws();
     declarators_declare_their_names();
 }
 
@@ -16,6 +18,7 @@ pub fn items_are_told_apart()
 pub fn sources_have_one_tree()
     ensures { SourcesHaveOneTree }
 {
+    expression_laws();
     declarators_declare_their_names();
 }
 
@@ -31,5 +34,6 @@ pub fn texts_have_one_tree()
 pub fn refusals_are_certain()
     ensures { RefusalsAreCertain }
 {
+    expression_laws();
     declarators_declare_their_names();
 }

@@ -15,9 +15,10 @@ use Rattle.c_expr.specs.declared.brackets.Bracketed.{Bracketed}
 use Rattle.c_expr.specs.inner.Parser.{Outcome, same_mark, expect}
 use Rattle.c_expr.specs.inner.Readers.{Readers, is_none, begins_spec, opened, free_name, named, finished, closed, direct_in, direct, declarator, direct_of, whole_of, formed, in_brackets}
 use Rattle.c_expr.specs.Theorems.{Takes, Lacks, Closes, LacksSuffix, AreComplete}
-use Rattle.c_expr.proofs.FirstTokensLemmas.{Begins-append}
+use Rattle.c_expr.specs.inner.FirstTokensLemmas.{Begins-append}
 use Rattle.c_expr.proofs.TypeNames.{free_is_no_type_name}
-use Rattle.c_expr.proofs.completeness.FirstTokens.{CanBeginDirect, CanBeginDeclarator, DirectReads-begins, DeclaratorForm-begins, declarator_no_spec, direct_no_star}
+use Rattle.c_expr.proofs.completeness.DeclaratorsBegin.{CanBeginDirect, DirectReads-begins, DeclaratorForm-begins, declarator_no_spec, direct_no_star}
+use Rattle.c_expr.specs.FirstTokens.{CanBeginDeclarator}
 use Rattle.c_expr.proofs.completeness.Suffixes.{suffixes_take, no_suffixes, closes_lacks_suffix, run_stars}
 use Rattle.c_expr.proofs.completeness.TypeWords.{some_suffixes}
 

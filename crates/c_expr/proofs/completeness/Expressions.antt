@@ -15,9 +15,11 @@ use Rattle.c_expr.specs.declared.operand.Part.TheVariants as part_as
 use Rattle.c_expr.specs.inner.Parser.{Tall}
 use Rattle.c_expr.specs.inner.Readers.{Readers, continuation, whole_level, left_level, part_level, with_part, extended, bracketed, operand, part, close, level_in, level as level_reader}
 use Rattle.c_expr.specs.Theorems.{AreComplete, Takes, Stops}
-use Rattle.c_expr.proofs.FirstTokensLemmas.{Begins, Begins-append, Begins-wrapped, CanBeginExpression, ExprForm-begins}
+use Rattle.c_expr.specs.FirstTokens.{Begins, CanBeginExpression}
+use Rattle.c_expr.specs.inner.FirstTokensLemmas.{Begins-append}
+use Rattle.c_expr.proofs.FormsBegin.{Begins-wrapped, ExprForm-begins, no_spec}
 use Rattle.c_expr.proofs.completeness.Operands.{PartShrinks, least_in, Clear, clear_of, clear_above, clear_before, stops_loose, stops_binary, stops_prefix, binary_most, going_is, close_steps, close_bracket, close_done, level_in_open}
-use Rattle.c_expr.proofs.completeness.Parts.{assign_goes, binary_goes, no_spec, index_taken, call_taken, member_taken, arrow_taken, increment_taken, decrement_taken, binary_taken, assign_taken, conditional_taken}
+use Rattle.c_expr.proofs.completeness.Parts.{assign_goes, binary_goes, index_taken, call_taken, member_taken, arrow_taken, increment_taken, decrement_taken, binary_taken, assign_taken, conditional_taken}
 use Rattle.c_expr.proofs.completeness.Heads.{Leads, opens_no_type, name_leads, number_leads, text_leads, pre_increment_leads, pre_decrement_leads, unary_leads, sizeof_leads, sizeof_type_leads, cast_leads}
 
 -- the tokens lead to an operand of this expression, and to what comes behind it

@@ -12,13 +12,14 @@ use Rattle.c_tree.specs.Marks.{Kinds, wrapped, unary_mark, cast_level, unary_lev
 use Rattle.c_tree.specs.Grammar.{IsFree, ExprReads, ExprForm, TypeWordReads}
 use Rattle.c_expr.specs.declared.operand.Operand.{Operand}
 use Rattle.c_expr.specs.inner.Parser.{same_mark}
-use Rattle.c_expr.specs.inner.Readers.{Readers, head, prefix, cast, sizeof, unary_behind, operand, leaf, opens_type, begins_spec, close, level_in}
+use Rattle.c_expr.specs.inner.Readers.{Readers, head, prefixed, cast, sizeof, unary_behind, operand, leaf, opens_type, begins_spec, close, level_in}
 use Rattle.c_expr.specs.Theorems.{AreComplete}
-use Rattle.c_expr.proofs.Steps.{expect_is, same_mark_is}
+use Rattle.c_expr.specs.inner.ParserLemmas.{expect_is, same_mark_is}
 use Rattle.c_expr.proofs.TypeNames.{free_is_no_type_name}
-use Rattle.c_expr.proofs.FirstTokensLemmas.{Begins, Begins-append, Begins-wrapped, CanBeginExpression, ExprForm-begins, TypeWordReads-begins}
+use Rattle.c_expr.specs.FirstTokens.{Begins, CanBeginExpression}
+use Rattle.c_expr.specs.inner.FirstTokensLemmas.{Begins-append}
+use Rattle.c_expr.proofs.FormsBegin.{Begins-wrapped, ExprForm-begins, TypeWordReads-begins, no_spec, some_spec}
 use Rattle.c_expr.proofs.completeness.Operands.{binary_most, level_in_head}
-use Rattle.c_expr.proofs.completeness.Parts.{no_spec, some_spec}
 
 -- ---- an operand of `sizeof` doesn't begin with a type in parentheses
 
@@ -41,8 +42,8 @@ decrement_opens = refl
 at_tokens : (names : List (List ℕ)) (ts us rest : Kinds) → ts ≡ us → opens_type names (us ++ rest) ≡ false → opens_type names (ts ++ rest) ≡ false
 at_tokens names ts us rest is h = rw is h
 
-at_front : (names : List (List ℕ)) (ts us vs rest : Kinds) → ts ≡ us ++ vs → opens_type names (us ++ (vs ++ rest)) ≡ false → opens_type names (ts ++ rest) ≡ false
-at_front names ts us vs rest is h = rw (is, append_assoc us vs rest) h
+at_prefix : (names : List (List ℕ)) (ts us vs rest : Kinds) → ts ≡ us ++ vs → opens_type names (us ++ (vs ++ rest)) ≡ false → opens_type names (ts ++ rest) ≡ false
+at_prefix names ts us vs rest is h = rw (is, append_assoc us vs rest) h
 
 in_pairs : (names : List (List ℕ)) (pairs : ℕ) (ts rest : Kinds) → Begins (CanBeginExpression names) ts → opens_type names (wrapped (suc pairs) ts ++ rest) ≡ false
 in_pairs names pairs ts rest begins =
@@ -66,12 +67,12 @@ mutual
   form_opens_no_type {names} (ExprForm.sizeof_expression level h ts e a ha ats l hi is ei right) tight rest = at_tokens names ts (Word word.Sizeof ∷ ats) rest is refl
   form_opens_no_type {names} (ExprForm.sizeof_type level h ts e t ht tts l hi is ei ty) tight rest = at_tokens names ts (Word word.Sizeof ∷ wrapped 1 tts) rest is refl
   form_opens_no_type {names} (ExprForm.index level h ts e a i ha ii ats its l hi is ei left place) tight rest =
-      at_front names ts ats (Mark mark.LeftBracket ∷ (its ++ Mark mark.RightBracket ∷ [])) rest (is ∙ append_assoc ats (Mark mark.LeftBracket ∷ its) (Mark mark.RightBracket ∷ [])) (opens_no_type left (omega arith) _)
-  form_opens_no_type {names} (ExprForm.call level h ts e f arguments hf ha fs ats l hi is ei left given) tight rest = at_front names ts fs (wrapped 1 ats) rest is (opens_no_type left (omega arith) _)
-  form_opens_no_type {names} (ExprForm.member level h ts e a x ha ats l hi free is ei left) tight rest = at_front names ts ats (Mark mark.Dot ∷ Name x ∷ []) rest is (opens_no_type left (omega arith) _)
-  form_opens_no_type {names} (ExprForm.arrow level h ts e a x ha ats l hi free is ei left) tight rest = at_front names ts ats (Mark mark.Arrow ∷ Name x ∷ []) rest is (opens_no_type left (omega arith) _)
-  form_opens_no_type {names} (ExprForm.post_increment level h ts e a ha ats l hi is ei left) tight rest = at_front names ts ats (Mark mark.Increment ∷ []) rest is (opens_no_type left (omega arith) _)
-  form_opens_no_type {names} (ExprForm.post_decrement level h ts e a ha ats l hi is ei left) tight rest = at_front names ts ats (Mark mark.Decrement ∷ []) rest is (opens_no_type left (omega arith) _)
+      at_prefix names ts ats (Mark mark.LeftBracket ∷ (its ++ Mark mark.RightBracket ∷ [])) rest (is ∙ append_assoc ats (Mark mark.LeftBracket ∷ its) (Mark mark.RightBracket ∷ [])) (opens_no_type left (omega arith) _)
+  form_opens_no_type {names} (ExprForm.call level h ts e f arguments hf ha fs ats l hi is ei left given) tight rest = at_prefix names ts fs (wrapped 1 ats) rest is (opens_no_type left (omega arith) _)
+  form_opens_no_type {names} (ExprForm.member level h ts e a x ha ats l hi free is ei left) tight rest = at_prefix names ts ats (Mark mark.Dot ∷ Name x ∷ []) rest is (opens_no_type left (omega arith) _)
+  form_opens_no_type {names} (ExprForm.arrow level h ts e a x ha ats l hi free is ei left) tight rest = at_prefix names ts ats (Mark mark.Arrow ∷ Name x ∷ []) rest is (opens_no_type left (omega arith) _)
+  form_opens_no_type {names} (ExprForm.post_increment level h ts e a ha ats l hi is ei left) tight rest = at_prefix names ts ats (Mark mark.Increment ∷ []) rest is (opens_no_type left (omega arith) _)
+  form_opens_no_type {names} (ExprForm.post_decrement level h ts e a ha ats l hi is ei left) tight rest = at_prefix names ts ats (Mark mark.Decrement ∷ []) rest is (opens_no_type left (omega arith) _)
   form_opens_no_type {names} (ExprForm.identifier level h ts e x l hi free is ei) tight rest = at_tokens names ts (Name x ∷ []) rest is refl
   form_opens_no_type {names} (ExprForm.number level h ts e n l hi is ei) tight rest = at_tokens names ts (Number n ∷ []) rest is refl
   form_opens_no_type {names} (ExprForm.text level h ts e bytes l hi is ei) tight rest = at_tokens names ts (Text bytes ∷ []) rest is refl
@@ -96,15 +97,15 @@ module _ (names : List (List ℕ)) (r : Readers) (n least k : ℕ) where
   text_leads bytes rest = level_in_head names r n least k (Text bytes) rest _ rest refl refl
 
   pub pre_increment_leads : (ts : Kinds) (a : Expr) (h : ℕ) (rest : Kinds) → r.expr unary_level ts ≡ Some ((a, h), rest) → Leads (Mark mark.Increment ∷ ts) (operand unary_level (e.PreIncrement a) (1 + h)) rest
-  unfolding head prefix
+  unfolding head prefixed
   pre_increment_leads ts a h rest is = level_in_head names r n least k (Mark mark.Increment) ts _ rest (rw increment_opens) (rw is)
 
   pub pre_decrement_leads : (ts : Kinds) (a : Expr) (h : ℕ) (rest : Kinds) → r.expr unary_level ts ≡ Some ((a, h), rest) → Leads (Mark mark.Decrement ∷ ts) (operand unary_level (e.PreDecrement a) (1 + h)) rest
-  unfolding head prefix
+  unfolding head prefixed
   pre_decrement_leads ts a h rest is = level_in_head names r n least k (Mark mark.Decrement) ts _ rest (rw decrement_opens) (rw is)
 
-  unary_prefix : (op : UnaryOperator) → prefix names r (unary_mark op) ≡ unary_behind names r op
-  unfolding prefix
+  unary_prefix : (op : UnaryOperator) → prefixed names r (unary_mark op) ≡ unary_behind names r op
+  unfolding prefixed
   unary_prefix unary.Address = refl
   unary_prefix unary.Dereference = refl
   unary_prefix unary.Negate = refl
@@ -136,7 +137,7 @@ module _ (names : List (List ℕ)) (r : Readers) (n least k : ℕ) where
 
     pub cast_leads : {ht : ℕ} {tts : Kinds} {t : TypeWord} → ht ≤ n → TypeWordReads names ht tts t → (ts : Kinds) (a : Expr) (h : ℕ) (rest : Kinds) → r.expr cast_level ts ≡ Some ((a, h), rest)
         → Leads (Mark mark.LeftParenthesis ∷ (tts ++ Mark mark.RightParenthesis ∷ ts)) (operand cast_level (e.Cast t a) (1 + max ht h)) rest
-    unfolding head prefix cast
+    unfolding head prefixed cast
     cast_leads {ht} {tts} {t} deep read ts a h rest is =
         level_in_head names r n least k (Mark mark.LeftParenthesis) (tts ++ Mark mark.RightParenthesis ∷ ts) _ rest
         (rw (word_begins read (Mark mark.RightParenthesis ∷ ts), same_mark_is mark.LeftParenthesis)) (rw (word_taken deep read ts) (rw (expect_is mark.RightParenthesis ts) (rw is)))

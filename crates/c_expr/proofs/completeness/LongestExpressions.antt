@@ -7,9 +7,10 @@ use Rattle.c_tree.specs.Marks.{Kinds, kinds_of}
 use Rattle.c_tree.specs.Grammar.{ExprReads}
 use Rattle.c_expr.specs.inner.Parser.{Outcome, Tall}
 use Rattle.c_expr.specs.inner.Readers.{readers}
-use Rattle.c_expr.specs.Theorems.{ReadersAreSound, ReadersReadLongest, IsLongestExpression, BeginsNoExpression}
-use Rattle.c_expr.proofs.FirstTokensLemmas.{ExprReads-some}
-use Rattle.c_expr.proofs.Steps.{found_both}
+use Rattle.c_expr.specs.Theorems.{ReadersAreSound, ReadersReadLongest}
+use Rattle.c_expr.specs.LongestExpression.{IsLongestExpression, BeginsNoExpression}
+use Rattle.c_expr.proofs.FormsBegin.{ExprReads-some}
+use Rattle.c_expr.specs.inner.ParserLemmas.{found_both}
 
 -- by other words for the names and the tokens
 pub read_by : {known names : List (List ℕ)} (depth : ℕ) {ts us : Kinds} (answer : Outcome (Tall Expr)) → known ≡ names → ts ≡ us → (readers known depth).expr 0 ts ≡ answer → (readers names depth).expr 0 us ≡ answer
@@ -40,7 +41,7 @@ module _ (sound : ReadersAreSound) (furthest : ReadersReadLongest) where
   longest_of names depth ts e h rest read =
       let found = (sound names depth).expr 0 ts e h rest read in
       record {
-        front = found.0;
+        prefix = found.0;
         rest = rest;
         split = found.1;
         len_is = omega (arith, ap length found.1, length-append found.0 rest);
@@ -53,8 +54,8 @@ module _ (sound : ReadersAreSound) (furthest : ReadersReadLongest) where
       }
 
   pub none_of : (names : List (List ℕ)) (depth : ℕ) (ts : Kinds) → (readers names depth).expr 0 ts ≡ None → BeginsNoExpression names depth ts
-  none_of names depth ts none front rest h e is deep read_front =
-      let more = furthest names 0 h depth front rest e (omega arith) deep read_front in
+  none_of names depth ts none prefix rest h e is deep read_prefix =
+      let more = furthest names 0 h depth prefix rest e (omega arith) deep read_prefix in
       cc (none, ap (λ ks. (readers names depth).expr 0 ks) is, more.5)
 
   -- the same, at a place of the tokens
@@ -78,8 +79,8 @@ module _ (sound : ReadersAreSound) (furthest : ReadersReadLongest) where
 
 -- nothing begins behind the last token
 pub none_behind : (names : List (List ℕ)) (depth at : ℕ) (tokens : List Token) → length tokens < at → BeginsNoExpression names depth (drop at (kinds_of tokens))
-none_behind names depth at tokens past front rest h e is deep read_front =
+none_behind names depth at tokens past prefix rest h e is deep read_prefix =
     let left = kinds_left at tokens in
     let there = drop-map (λ (t : Token). t.kind) at tokens in
-    let sum = length-append front rest in
-    ExprReads-some read_front (empty front (omega (arith, ap length is, ap length there)))
+    let sum = length-append prefix rest in
+    ExprReads-some read_prefix (empty prefix (omega (arith, ap length is, ap length there)))

@@ -11,11 +11,12 @@ use Rattle.c_expr.specs.declared.operand.Part.{Part}
 use Rattle.c_expr.specs.inner.Parser.{Parser, Outcome, Tall}
 use Rattle.c_expr.specs.inner.Readers.{Readers, readers, continuation, whole_level, takes, taken, going_on, extended, operand, part, grown_by, grown_with, grow_from, grow, close, level}
 use Rattle.c_expr.specs.Theorems.{AreComplete, AreSound, Stops, ReadersAreComplete, ReadersAreSound, ReadersReadLongest, ExpressionsHaveOneTree}
-use Rattle.c_expr.proofs.FirstTokensLemmas.{ExprForm-begins}
-use Rattle.c_expr.proofs.Steps.{found_both}
+use Rattle.c_expr.proofs.FormsBegin.{ExprForm-begins}
+use Rattle.c_expr.specs.inner.ParserLemmas.{found_both}
 use Rattle.c_expr.proofs.soundness.PartsFit.{part_fits, part_shrinks}
 use Rattle.c_expr.proofs.completeness.Heads.{Leads}
 use Rattle.c_expr.proofs.completeness.Expressions.{FormEnds, form_ends, bracketed_led}
+use Rattle.c_expr.proofs.completeness.EachDepth.{expression_has_node}
 
 -- ---- growing takes tokens from the front, and keeps the level
 
@@ -31,8 +32,8 @@ record Grows (least : ℕ) (ts : Kinds) (out : Outcome Operand) : Type 0 where
 stays : (least : ℕ) (ts : Kinds) (o : Operand) → least ≤ o.level → Grows least ts (Some (o, ts))
 stays least ts o le = record { o = o; fits = le; more = []; rest = ts; split = refl; is = refl }
 
-grows_behind : {least : ℕ} {ts us : Kinds} {out : Outcome Operand} (front : Kinds) → ts ≡ front ++ us → Grows least us out → Grows least ts out
-grows_behind front cut g = record { o = g.o; fits = g.fits; more = front ++ g.more; rest = g.rest; split = cut ∙ ap (λ vs. front ++ vs) g.split ∙ sym (append_assoc front g.more g.rest); is = g.is }
+grows_behind : {least : ℕ} {ts us : Kinds} {out : Outcome Operand} (prefix : Kinds) → ts ≡ prefix ++ us → Grows least us out → Grows least ts out
+grows_behind prefix cut g = record { o = g.o; fits = g.fits; more = prefix ++ g.more; rest = g.rest; split = cut ∙ ap (λ vs. prefix ++ vs) g.split ∙ sym (append_assoc prefix g.more g.rest); is = g.is }
 
 takes_level : (limit least : ℕ) (o : Operand) (c d : Continuation) (b : Bool) → takes limit least o d ≡ b → (if b then Some d else None) ≡ Some c → least ≤ whole_level c
 takes_level limit least o c d false is same = cc
@@ -77,30 +78,6 @@ module _ (names : List (List ℕ)) (n : ℕ) (r : Readers) (sound : AreSound nam
 
 -- ---- the longest expression
 
--- no expression is of height 0
-form_tall : {names : List (List ℕ)} {level h : ℕ} {ts : Kinds} {e : Expr} → ExprForm names level h ts e → 1 ≤ h
-form_tall (ExprForm.assign level h ts e a b op ha hb ats bs l hi is ei left right) = omega arith
-form_tall (ExprForm.conditional level h ts e c a b hc ha hb cs ats bs l hi is ei test middle right) = omega arith
-form_tall (ExprForm.binary level h ts e a b op ha hb ats bs l hi is ei left right) = omega arith
-form_tall (ExprForm.cast level h ts e t a ht ha tts ats l hi is ei ty right) = omega arith
-form_tall (ExprForm.pre_increment level h ts e a ha ats l hi is ei right) = omega arith
-form_tall (ExprForm.pre_decrement level h ts e a ha ats l hi is ei right) = omega arith
-form_tall (ExprForm.unary level h ts e a op ha ats l hi is ei right) = omega arith
-form_tall (ExprForm.sizeof_expression level h ts e a ha ats l hi is ei right) = omega arith
-form_tall (ExprForm.sizeof_type level h ts e t ht tts l hi is ei ty) = omega arith
-form_tall (ExprForm.index level h ts e a i ha ii ats its l hi is ei left place) = omega arith
-form_tall (ExprForm.call level h ts e f arguments hf ha fs ats l hi is ei left given) = omega arith
-form_tall (ExprForm.member level h ts e a x ha ats l hi free is ei left) = omega arith
-form_tall (ExprForm.arrow level h ts e a x ha ats l hi free is ei left) = omega arith
-form_tall (ExprForm.post_increment level h ts e a ha ats l hi is ei left) = omega arith
-form_tall (ExprForm.post_decrement level h ts e a ha ats l hi is ei left) = omega arith
-form_tall (ExprForm.identifier level h ts e x l hi free is ei) = omega arith
-form_tall (ExprForm.number level h ts e m l hi is ei) = omega arith
-form_tall (ExprForm.text level h ts e bytes l hi is ei) = omega arith
-
-reads_tall : {names : List (List ℕ)} {least h : ℕ} {ts : Kinds} {e : Expr} → ExprReads names least h ts e → 1 ≤ h
-reads_tall (ExprReads.reads least h ts e pairs level inner few fits is form) = form_tall form
-
 -- the tokens lead to an operand of this level or a tighter one, and what comes behind is left of what came
 record Reaches (names : List (List ℕ)) (n : ℕ) (r : Readers) (least : ℕ) (ts rest : Kinds) : Type 0 where
   o : Operand
@@ -140,7 +117,7 @@ module _ (names : List (List ℕ)) (n : ℕ) (r : Readers) (full : AreComplete n
 
 pub readers_read_longest : ReadersAreComplete → ReadersAreSound → ReadersReadLongest
 unfolding readers
-readers_read_longest complete sound names least h zero ts rest e lp deep read = let tall = reads_tall read in absurd (omega arith)
+readers_read_longest complete sound names least h zero ts rest e lp deep read = let some = expression_has_node read in absurd (omega arith)
 readers_read_longest complete sound names least h (suc n) ts rest e lp deep read =
     let longest = λ (least h : ℕ) (ts rest : Kinds) (e : Expr). readers_read_longest complete sound names least h n ts rest e in
     reaches_longest names n (readers names n) (complete names n) (sound names n) longest least ts rest (reaches names n (readers names n) (complete names n) (sound names n) longest rest read lp deep)

@@ -13,7 +13,9 @@ use Rattle.c_tree.specs.declared.expression.Params.{Params}
 use Rattle.c_tree.specs.declared.expression.Suffix.{Suffix}
 use Rattle.c_tree.specs.Marks.{Kinds, wrapped}
 use Rattle.c_tree.specs.Grammar.{IsFree, star_kinds, DeclaratorReads, DeclaratorForm, DirectReads, SuffixesRead, SuffixReads, ParamsRead, ParamListReads, ParamReads, AbstractReads, AbstractForm}
-use Rattle.c_expr.proofs.FirstTokensLemmas.{Begins, Begins-append, Begins-same, CanBeginSpec, SpecReads-begins}
+use Rattle.c_expr.specs.FirstTokens.{Begins, CanBeginSpec}
+use Rattle.c_expr.specs.inner.FirstTokensLemmas.{Begins-append, Begins-same}
+use Rattle.c_expr.proofs.FormsBegin.{SpecReads-begins}
 
 -- what is left behind each `(` and `*` at the front
 abbrev pub core : Kinds → Kinds

@@ -14,7 +14,7 @@ use Rattle.c_expr.specs.declared.operand.Part.{Part}
 use Rattle.c_expr.specs.inner.Parser.{Parser, Outcome, Tall, and_then, is_mark, behind}
 use Rattle.c_expr.specs.inner.Readers.{Readers, continuation, whole_level, left_level, takes, taken, going_on, extended, bracketed, part, grown_by, grown_with, grow_from, grow, close, head, level_in, opened, begins_spec}
 use Rattle.c_expr.specs.Theorems.{Stops}
-use Rattle.c_expr.proofs.Steps.{expect_is, same_mark_is}
+use Rattle.c_expr.specs.inner.ParserLemmas.{expect_is, same_mark_is}
 
 -- a part gives back no more tokens than it got
 abbrev pub PartShrinks : List (List ℕ) → Readers → Type 0

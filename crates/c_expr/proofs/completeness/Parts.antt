@@ -18,9 +18,11 @@ use Rattle.c_expr.specs.declared.operand.Part.TheVariants as part_as
 use Rattle.c_expr.specs.inner.Parser.{same_mark, is_mark, sees}
 use Rattle.c_expr.specs.inner.Readers.{Readers, continuation, continuation_of, part, arguments, index, arms, free_name, begins_spec, kind_begins_spec}
 use Rattle.c_expr.specs.Theorems.{AreComplete, Stops}
-use Rattle.c_expr.proofs.Steps.{sees_is, after_is, after_other, expect_is, same_mark_true}
+use Rattle.c_expr.specs.inner.ParserLemmas.{sees_is, after_is, after_other, expect_is, same_mark_true}
 use Rattle.c_expr.proofs.TypeNames.{free_is_no_type_name, contains_type_name}
-use Rattle.c_expr.proofs.FirstTokensLemmas.{Begins, Begins-append, Begins-same, CanBeginExpression, CanBeginSpec, mark_begins_expression, ExprReads-begins, ExprReads-some}
+use Rattle.c_expr.specs.FirstTokens.{Begins, CanBeginExpression, CanBeginSpec, mark_begins_expression}
+use Rattle.c_expr.specs.inner.FirstTokensLemmas.{Begins-append, Begins-same, expression_lacks, stops_at}
+use Rattle.c_expr.proofs.FormsBegin.{ExprReads-begins, ExprReads-some}
 use Rattle.c_expr.proofs.SeparatedLists.{SeparatedRead, TakesItems, separated_takes, length_some}
 
 -- ---- marks
@@ -57,54 +59,6 @@ binary_goes binary.Subtract ks = refl
 binary_goes binary.Multiply ks = refl
 binary_goes binary.Divide ks = refl
 binary_goes binary.Remainder ks = refl
-
--- at a mark that no operand goes on with, any operand stops
-pub stops_at : (least : ℕ) (m : MarkName) (ks : Kinds) → continuation_of m ≡ None → Stops least (Mark m ∷ ks)
-stops_at least m ks is c goes = cc
-
--- ---- the first token of an expression
-
-no_spec_kind : (names : List (List ℕ)) (k : Kind) → CanBeginExpression names k → kind_begins_spec names k ≡ false
-no_spec_kind names (Word w) is = rw is
-no_spec_kind names (Name x) free = free_is_no_type_name names x free
-no_spec_kind names (Number m) is = refl
-no_spec_kind names (Text bytes) is = refl
-no_spec_kind names (Mark m) is = refl
-
--- what begins an expression begins no spec
-pub no_spec : (names : List (List ℕ)) (ts : Kinds) → Begins (CanBeginExpression names) ts → begins_spec names ts ≡ false
-no_spec names [] b = refl
-no_spec names (k ∷ ks) b = no_spec_kind names k b
-
-spec_kind : (names : List (List ℕ)) (k : Kind) → CanBeginSpec names k → kind_begins_spec names k ≡ true
-spec_kind names (Word word.Int) is = refl
-spec_kind names (Word word.Char) is = refl
-spec_kind names (Word word.Void) is = refl
-spec_kind names (Word word.Struct) is = refl
-spec_kind names (Word _) is = cc
-spec_kind names (Name x) is = contains_type_name names x is
-spec_kind names (Number m) is = absurd is
-spec_kind names (Text bytes) is = absurd is
-spec_kind names (Mark m) is = absurd is
-
-pub some_spec : (names : List (List ℕ)) (ts : Kinds) → Begins (CanBeginSpec names) ts → begins_spec names ts ≡ true
-some_spec names [] b = absurd b
-some_spec names (k ∷ ks) b = spec_kind names k b
-
-no_close_mark : (m : MarkName) (b : Bool) → same_mark m mark.RightParenthesis ≡ b → IsTrue (mark_begins_expression m) → b ≡ false
-no_close_mark m true same is = absurd (false≢true (subst (λ x. IsTrue (mark_begins_expression x)) (same_mark_true m mark.RightParenthesis same) is))
-no_close_mark m false same is = refl
-
-no_close_kind : (names : List (List ℕ)) (k : Kind) → CanBeginExpression names k → is_mark mark.RightParenthesis k ≡ false
-no_close_kind names (Word w) is = refl
-no_close_kind names (Name x) is = refl
-no_close_kind names (Number m) is = refl
-no_close_kind names (Text bytes) is = refl
-no_close_kind names (Mark m) is = no_close_mark m (same_mark m mark.RightParenthesis) refl is
-
-no_close : (names : List (List ℕ)) (ts : Kinds) → Begins (CanBeginExpression names) ts → sees mark.RightParenthesis ts ≡ false
-no_close names [] b = refl
-no_close names (k ∷ ks) b = no_close_kind names k b
 
 no_comma : same_mark mark.RightParenthesis mark.Comma ≡ false
 unfolding same_mark
@@ -174,7 +128,7 @@ module _ (names : List (List ℕ)) (n : ℕ) (r : Readers) (full : AreComplete n
   arguments_taken deep (ArgumentsRead.no_argument h ts es hi is ei) rest = rw (hi, is, ei) (rw (sees_is mark.RightParenthesis rest) (rw (after_is mark.RightParenthesis rest)))
   arguments_taken deep (ArgumentsRead.some_arguments h ts es read) rest =
       let all = ts ++ Mark mark.RightParenthesis ∷ rest in
-      let other = no_close names all (Begins-append _ ts _ (ArgumentList-begins read)) in
+      let other = expression_lacks names mark.RightParenthesis all refl (Begins-append _ ts _ (ArgumentList-begins read)) in
       rw other (rw (after_other mark.RightParenthesis all other)
       (rw (separated_takes argument_items (arguments_separated read) deep (Mark mark.RightParenthesis ∷ rest) (stops_at assign_level mark.RightParenthesis rest refl) no_comma) (rw (expect_is mark.RightParenthesis rest))))
 

@@ -15,12 +15,14 @@ use Rattle.c_tree.specs.Grammar.{SpecReads, MembersRead, DeclaratorsRead, Declar
 use Rattle.c_expr.specs.inner.Parser.{Parser, Tall, Outcome, same_mark, same_word, sees, after, expect}
 use Rattle.c_expr.specs.inner.Readers.{Readers, free_name, member, members, members_from, struct_body, struct, spec, param, params, is_void_alone}
 use Rattle.c_expr.specs.Theorems.{Takes, Lacks, Closes, ClosesParenthesis, LacksSuffix, AreComplete}
-use Rattle.c_expr.proofs.FirstTokensLemmas.{Begins, Begins-append, Begins-same, CanBeginSpec, SpecReads-begins}
+use Rattle.c_expr.specs.FirstTokens.{Begins, CanBeginSpec, CanBeginDeclarator}
+use Rattle.c_expr.specs.inner.FirstTokensLemmas.{Begins-append, Begins-same, declarator_lacks, brace_opens_nothing, spec_lacks}
+use Rattle.c_expr.proofs.FormsBegin.{SpecReads-begins}
 use Rattle.c_expr.proofs.completeness.NamesToldApart.{core, NotFree, DeclaratorReads-core, AbstractReads-core, ParamReads-begins, ParamListReads-begins}
 use Rattle.c_expr.proofs.TypeNames.{contains_type_name, free_is_no_type_name}
 use Rattle.c_expr.proofs.SeparatedLists.{SeparatedRead, TakesItems, separated_takes}
-use Rattle.c_expr.proofs.completeness.FirstTokens.{CanBeginDeclarator, DeclaratorReads-begins, AbstractReads-lacks, declarator_some, declarator_lacks, brace_opens_nothing, closing_opens_nothing, named_looks, unnamed_looks}
-use Rattle.c_expr.proofs.completeness.Suffixes.{spec_lacks, lacks_append, closes_lacks_suffix}
+use Rattle.c_expr.proofs.completeness.DeclaratorsBegin.{DeclaratorReads-begins, AbstractReads-lacks, declarator_some, closing_opens_nothing, named_looks, unnamed_looks}
+use Rattle.c_expr.proofs.completeness.Suffixes.{lacks_append, closes_lacks_suffix}
 use Rattle.c_expr.proofs.completeness.TypeWords.{closes_no_brace}
 
 -- ---- the members of a struct's body

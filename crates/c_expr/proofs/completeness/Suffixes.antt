@@ -10,33 +10,13 @@ use Rattle.c_tree.specs.Grammar.{star_kinds, SuffixesRead, SuffixReads}
 use Rattle.c_expr.specs.inner.Parser.{same_mark, sees, after, expect, run}
 use Rattle.c_expr.specs.inner.Readers.{Readers, continuation, bound, suffix, suffixes, suffixes_from}
 use Rattle.c_expr.specs.Theorems.{Lacks, Closes, LacksSuffix, Stops, AreComplete}
-use Rattle.c_expr.proofs.FirstTokensLemmas.{Begins, CanBeginExpression, CanBeginSpec, mark_begins_expression, ExprReads-begins}
-use Rattle.c_expr.proofs.Steps.{same_mark_true}
-use Rattle.c_expr.proofs.SeparatedLists.{found_then}
+use Rattle.c_expr.specs.FirstTokens.{Begins, CanBeginExpression, CanBeginSpec, mark_begins_expression}
+use Rattle.c_expr.proofs.FormsBegin.{ExprReads-begins}
+use Rattle.c_expr.specs.inner.ParserLemmas.{same_mark_true, found_then}
+use Rattle.c_expr.specs.inner.FirstTokensLemmas.{expression_lacks}
 
 pub no_continuation : (least : ℕ) (ts : Kinds) → continuation ts ≡ None → Stops least ts
 no_continuation least ts none c is = cc
-
-other_mark : (m n : MarkName) (b : Bool) → mark_begins_expression m ≡ false → IsTrue (mark_begins_expression n) → same_mark n m ≡ b → b ≡ false
-other_mark m n true not begins same = let is = same_mark_true n m same in cc
-other_mark m n false not begins same = refl
-
--- an expression begins with no mark but those that can begin one
-pub expression_lacks : (names : List (List ℕ)) (m : MarkName) (ts : Kinds) → mark_begins_expression m ≡ false → Begins (CanBeginExpression names) ts → Lacks m ts
-expression_lacks names m [] not b = refl
-expression_lacks names m (Word w ∷ ks) not b = refl
-expression_lacks names m (Name x ∷ ks) not b = refl
-expression_lacks names m (Number n ∷ ks) not b = refl
-expression_lacks names m (Text bytes ∷ ks) not b = refl
-expression_lacks names m (Mark n ∷ ks) not b = other_mark m n (same_mark n m) not b refl
-
-pub spec_lacks : (names : List (List ℕ)) (m : MarkName) (ts : Kinds) → Begins (CanBeginSpec names) ts → Lacks m ts
-spec_lacks names m [] b = refl
-spec_lacks names m (Word w ∷ ks) b = refl
-spec_lacks names m (Name x ∷ ks) b = refl
-spec_lacks names m (Number n ∷ ks) b = refl
-spec_lacks names m (Text bytes ∷ ks) b = refl
-spec_lacks names m (Mark n ∷ ks) b = absurd b
 
 pub lacks_append : (P : Kind → Type 0) (m : MarkName) (ts rest : Kinds) → Begins P ts → Lacks m ts → Lacks m (ts ++ rest)
 lacks_append P m [] rest b l = absurd b

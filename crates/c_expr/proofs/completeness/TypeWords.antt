@@ -13,10 +13,11 @@ use Rattle.c_tree.specs.Grammar.{HasParts, star_kinds, SuffixesRead, SuffixReads
 use Rattle.c_expr.specs.inner.Parser.{same_mark, sees, behind, expect}
 use Rattle.c_expr.specs.inner.Readers.{Readers, suffixes, nested_abstract, abstract_behind, starred, with_suffixes, bracketed_abstract, abstract, type_word, is_none}
 use Rattle.c_expr.specs.Theorems.{Takes, Lacks, Closes, ClosesParenthesis, AreComplete}
-use Rattle.c_expr.proofs.FirstTokensLemmas.{CanBeginSpec}
+use Rattle.c_expr.specs.FirstTokens.{CanBeginSpec}
 use Rattle.c_expr.proofs.completeness.NamesToldApart.{ParamListReads-begins}
-use Rattle.c_expr.proofs.completeness.FirstTokens.{AbstractReads-lacks, brace_opens_nothing, suffixes_lack}
-use Rattle.c_expr.proofs.completeness.Suffixes.{spec_lacks, lacks_append, suffixes_take, closes_lacks_suffix, run_stars}
+use Rattle.c_expr.proofs.completeness.DeclaratorsBegin.{AbstractReads-lacks, suffixes_lack}
+use Rattle.c_expr.specs.inner.FirstTokensLemmas.{brace_opens_nothing, spec_lacks}
+use Rattle.c_expr.proofs.completeness.Suffixes.{lacks_append, suffixes_take, closes_lacks_suffix, run_stars}
 
 -- a parenthesis and a star behind it
 abbrev OpensStar : Kinds → Bool

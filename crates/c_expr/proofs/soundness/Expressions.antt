@@ -17,51 +17,52 @@ use Rattle.c_expr.specs.declared.operand.Continuation.{Continuation}
 use Rattle.c_expr.specs.declared.operand.Operand.{Operand}
 use Rattle.c_expr.specs.declared.operand.Part.{Part}
 use Rattle.c_expr.specs.inner.Parser.{Parser, Outcome, Tall, behind}
-use Rattle.c_expr.specs.inner.Readers.{Readers, is_type_name, continuation, whole_level, left_level, takes, taken, going_on, extended, bracketed, operand, opened, opens_type, part, grown_by, grown_with, grow_from, grow, close, sizeof, cast, unary_behind, prefix_by, prefix, head_by, head, level_in, level}
+use Rattle.c_expr.specs.inner.Readers.{Readers, is_type_name, continuation, whole_level, left_level, takes, taken, going_on, extended, bracketed, operand, opened, opens_type, part, grown_by, grown_with, grow_from, grow, close, sizeof, cast, unary_behind, prefixed_by, prefixed, head_by, head, level_in, level}
 use Rattle.c_expr.specs.Theorems.{ReadsOnly, AreSound}
 use Rattle.c_expr.proofs.TypeNames.{no_type_name_is_free}
-use Rattle.c_expr.proofs.soundness.Chains.{both_true, both_answer, tree_answer, mark_answer, tested, tested_at, pure_answer, plain_holds, Reads, join, push, opens, opened_split, max_low, zero_low, one_low, above_low}
+use Rattle.c_expr.proofs.soundness.Chains.{both_true, tree_answer, pure_answer, push, opens, opened_split, max_low, zero_low, one_low, above_low}
+use Rattle.c_expr.specs.inner.ParserLemmas.{both_answer, mark_answer, tested, tested_at, plain_holds, ReadsPrefix, join}
 use Rattle.c_expr.proofs.soundness.Declarators.{wrapped_more}
 use Rattle.c_expr.proofs.soundness.Parts.{mark_of, continuation_mark, PartReads, part_reads}
 
 -- tokens that are an operand: a form of an expression in so many parentheses
-pub record OperandReads (names : List (List ℕ)) (n : ℕ) (front : Kinds) (o : Operand) : Type 0 where
+pub record OperandReads (names : List (List ℕ)) (n : ℕ) (prefix : Kinds) (o : Operand) : Type 0 where
   pub few : o.pairs ≤ greatest_pairs
   pub form_level : ℕ
   pub inner : Kinds
-  pub is : front ≡ wrapped o.pairs inner
+  pub is : prefix ≡ wrapped o.pairs inner
   pub form : ExprForm names form_level o.height inner o.expr
   pub fits : (form_level ≡ o.level) ⊎ (0 < o.pairs)
   pub low : o.height ≤ suc n
 
 -- an operand is an expression at its level and at each looser one
-operand_expr : {names : List (List ℕ)} {n : ℕ} {front : Kinds} (least : ℕ) (o : Operand) → least ≤ o.level → OperandReads names n front o → ExprReads names least o.height front o.expr
+operand_expr : {names : List (List ℕ)} {n : ℕ} {prefix : Kinds} (least : ℕ) (o : Operand) → least ≤ o.level → OperandReads names n prefix o → ExprReads names least o.height prefix o.expr
 operand_expr least o loose r =
     ExprReads.reads _ _ _ _ o.pairs r.form_level r.inner r.few (elim r.fits [ inl same ↦ inl (subst (λ l. least ≤ l) (sym same) loose) | inr some ↦ inr some ]) r.is r.form
 
-simple_operand : {names : List (List ℕ)} {front : Kinds} {e : Expr} (n level h : ℕ) → h ≤ suc n → ExprForm names level h front e → OperandReads names n front (operand level e h)
-simple_operand {front = front} n level h low form = record { few = zero_low 8; form_level = level; inner = front; is = refl; form = form; fits = inl refl; low = low }
+simple_operand : {names : List (List ℕ)} {prefix : Kinds} {e : Expr} (n level h : ℕ) → h ≤ suc n → ExprForm names level h prefix e → OperandReads names n prefix (operand level e h)
+simple_operand {prefix = prefix} n level h low form = record { few = zero_low 8; form_level = level; inner = prefix; is = refl; form = form; fits = inl refl; low = low }
 
 -- an operand in one more pair of parentheses
-bracketed_reads : {names : List (List ℕ)} {n : ℕ} {front : Kinds} (o : Operand) → o.pairs < greatest_pairs → OperandReads names n front o → OperandReads names n (Mark mark.LeftParenthesis ∷ front ++ Mark mark.RightParenthesis ∷ []) (bracketed o)
+bracketed_reads : {names : List (List ℕ)} {n : ℕ} {prefix : Kinds} (o : Operand) → o.pairs < greatest_pairs → OperandReads names n prefix o → OperandReads names n (Mark mark.LeftParenthesis ∷ prefix ++ Mark mark.RightParenthesis ∷ []) (bracketed o)
 unfolding bracketed
-bracketed_reads {front = front} o few r = record { few = omega arith; form_level = r.form_level; inner = r.inner; is = wrapped_more o.pairs front r.inner r.is; form = r.form; fits = inr (omega arith); low = r.low }
+bracketed_reads {prefix = prefix} o few r = record { few = omega arith; form_level = r.form_level; inner = r.inner; is = wrapped_more o.pairs prefix r.inner r.is; form = r.form; fits = inr (omega arith); low = r.low }
 
 three_true : (a b c : Bool) → (a && b && c) ≡ true → (a ≡ true) × (b ≡ true) × (c ≡ true)
 three_true a b c is = let x = both_true (a && b) c is in let y = both_true a b x.0 in (y.0, y.1, x.1)
 
 -- an operand with what goes on behind it
-extended_reads : {names : List (List ℕ)} {n : ℕ} {front : Kinds} (least : ℕ) (c : Continuation) (o : Operand) (p : Part) (h : ℕ) (more : Kinds) → OperandReads names n front o → takes n least o c ≡ true → h ≤ n → PartReads names c h more p
-    → OperandReads names n (front ++ Mark (mark_of c) ∷ more) (extended o (p, h))
+extended_reads : {names : List (List ℕ)} {n : ℕ} {prefix : Kinds} (least : ℕ) (c : Continuation) (o : Operand) (p : Part) (h : ℕ) (more : Kinds) → OperandReads names n prefix o → takes n least o c ≡ true → h ≤ n → PartReads names c h more p
+    → OperandReads names n (prefix ++ Mark (mark_of c) ∷ more) (extended o (p, h))
 unfolding extended
-extended_reads {names} {n} {front} least c o p h more r takes low here =
+extended_reads {names} {n} {prefix} least c o p h more r takes low here =
     let t = three_true (nat_le least (whole_level c)) (nat_le (left_level c) o.level) (nat_le o.height n) takes in
     record {
       few = zero_low 8;
       form_level = whole_level c;
-      inner = front ++ Mark (mark_of c) ∷ more;
+      inner = prefix ++ Mark (mark_of c) ∷ more;
       is = refl;
-      form = here.1 o.expr o.height front (operand_expr (left_level c) o (leb-true _ _ t.1) r);
+      form = here.1 o.expr o.height prefix (operand_expr (left_level c) o (leb-true _ _ t.1) r);
       fits = inl (sym here.0);
       low = above_low _ n (max_low _ _ _ (leb-true _ _ t.2) low);
     }
@@ -78,57 +79,57 @@ going_on_some n least o ts c is = taken_some n least o (continuation ts) c is
 
 -- some tokens at the front are so
 abbrev pub OperandFound : List (List ℕ) → ℕ → Kinds → Operand → Kinds → Type 0
-OperandFound names n ts o rest = (front : Kinds) × (ts ≡ front ++ rest) × OperandReads names n front o
+OperandFound names n ts o rest = (prefix : Kinds) × (ts ≡ prefix ++ rest) × OperandReads names n prefix o
 
 -- the same behind this token, which counts
 abbrev OperandBehind : List (List ℕ) → ℕ → Kind → Kinds → Operand → Kinds → Type 0
-OperandBehind names n k ts o rest = (front : Kinds) × (ts ≡ front ++ rest) × OperandReads names n (k ∷ front) o
+OperandBehind names n k ts o rest = (prefix : Kinds) × (ts ≡ prefix ++ rest) × OperandReads names n (k ∷ prefix) o
 
 module _ (names : List (List ℕ)) (n : ℕ) (inner : Readers) (below : AreSound names n inner) where
   -- ---- growing
 
-  grown_by_reads : (least : ℕ) (o : Operand) (front ts : Kinds) (final : Operand) (rest : Kinds) (more : Operand → Parser Operand)
+  grown_by_reads : (least : ℕ) (o : Operand) (prefix ts : Kinds) (final : Operand) (rest : Kinds) (more : Operand → Parser Operand)
       → ((p : Operand) (all us : Kinds) → OperandReads names n all p → more p us ≡ Some (final, rest) → OperandFound names n (all ++ us) final rest)
-      → OperandReads names n front o → (c : Continuation) → going_on n least o ts ≡ Some c → (q : Outcome (Tall Part)) → part names inner c (behind ts) ≡ q → grown_by names inner o ts more q ≡ Some (final, rest) → OperandFound names n (front ++ ts) final rest
-  grown_by_reads least o front ts final rest more onward here c seen None none is = plain_holds (λ final rest. OperandFound names n (front ++ ts) final rest) is (front, refl, here)
-  grown_by_reads least o front ts final rest more onward here c seen (Some q) found is =
+      → OperandReads names n prefix o → (c : Continuation) → going_on n least o ts ≡ Some c → (q : Outcome (Tall Part)) → part names inner c (behind ts) ≡ q → grown_by names inner o ts more q ≡ Some (final, rest) → OperandFound names n (prefix ++ ts) final rest
+  grown_by_reads least o prefix ts final rest more onward here c seen None none is = plain_holds (λ final rest. OperandFound names n (prefix ++ ts) final rest) is (prefix, refl, here)
+  grown_by_reads least o prefix ts final rest more onward here c seen (Some q) found is =
       let g = going_on_some n least o ts c seen in
       let p = part_reads names n inner below c (behind ts) q.0.0 q.0.1 q.1 found in
-      let split : front ++ ts ≡ (front ++ Mark (mark_of c) ∷ p.0) ++ q.1 = join front (Mark (mark_of c) ∷ p.0) q.1 refl (push p.0 q.1 (continuation_mark ts c g.0) p.1) in
-      subst (λ us. OperandFound names n us final rest) (sym split) (onward (extended o q.0) (front ++ Mark (mark_of c) ∷ p.0) q.1 (extended_reads least c o q.0.0 q.0.1 p.0 here g.1 p.2 p.3) is)
+      let split : prefix ++ ts ≡ (prefix ++ Mark (mark_of c) ∷ p.0) ++ q.1 = join prefix (Mark (mark_of c) ∷ p.0) q.1 refl (push p.0 q.1 (continuation_mark ts c g.0) p.1) in
+      subst (λ us. OperandFound names n us final rest) (sym split) (onward (extended o q.0) (prefix ++ Mark (mark_of c) ∷ p.0) q.1 (extended_reads least c o q.0.0 q.0.1 p.0 here g.1 p.2 p.3) is)
 
-  grown_with_reads : (least : ℕ) (o : Operand) (front ts : Kinds) (final : Operand) (rest : Kinds) (more : Operand → Parser Operand)
+  grown_with_reads : (least : ℕ) (o : Operand) (prefix ts : Kinds) (final : Operand) (rest : Kinds) (more : Operand → Parser Operand)
       → ((p : Operand) (all us : Kinds) → OperandReads names n all p → more p us ≡ Some (final, rest) → OperandFound names n (all ++ us) final rest)
-      → OperandReads names n front o → (g : Option Continuation) → going_on n least o ts ≡ g → grown_with names inner o ts more g ≡ Some (final, rest) → OperandFound names n (front ++ ts) final rest
-  grown_with_reads least o front ts final rest more onward here None none is = plain_holds (λ final rest. OperandFound names n (front ++ ts) final rest) is (front, refl, here)
-  grown_with_reads least o front ts final rest more onward here (Some c) seen is = grown_by_reads least o front ts final rest more onward here c seen (part names inner c (behind ts)) refl is
+      → OperandReads names n prefix o → (g : Option Continuation) → going_on n least o ts ≡ g → grown_with names inner o ts more g ≡ Some (final, rest) → OperandFound names n (prefix ++ ts) final rest
+  grown_with_reads least o prefix ts final rest more onward here None none is = plain_holds (λ final rest. OperandFound names n (prefix ++ ts) final rest) is (prefix, refl, here)
+  grown_with_reads least o prefix ts final rest more onward here (Some c) seen is = grown_by_reads least o prefix ts final rest more onward here c seen (part names inner c (behind ts)) refl is
 
-  grow_from_reads : (least k : ℕ) (o : Operand) (front ts : Kinds) (final : Operand) (rest : Kinds) → OperandReads names n front o → grow_from names inner n least k o ts ≡ Some (final, rest) → OperandFound names n (front ++ ts) final rest
+  grow_from_reads : (least k : ℕ) (o : Operand) (prefix ts : Kinds) (final : Operand) (rest : Kinds) → OperandReads names n prefix o → grow_from names inner n least k o ts ≡ Some (final, rest) → OperandFound names n (prefix ++ ts) final rest
   unfolding grow_from
-  grow_from_reads least zero o front ts final rest here is = plain_holds (λ final rest. OperandFound names n (front ++ ts) final rest) is (front, refl, here)
-  grow_from_reads least (suc k) o front ts final rest here is =
-      grown_with_reads least o front ts final rest (grow_from names inner n least k) (λ p all us reads go. grow_from_reads least k p all us final rest reads go) here (going_on n least o ts) refl is
+  grow_from_reads least zero o prefix ts final rest here is = plain_holds (λ final rest. OperandFound names n (prefix ++ ts) final rest) is (prefix, refl, here)
+  grow_from_reads least (suc k) o prefix ts final rest here is =
+      grown_with_reads least o prefix ts final rest (grow_from names inner n least k) (λ p all us reads go. grow_from_reads least k p all us final rest reads go) here (going_on n least o ts) refl is
 
-  grow_reads : (least : ℕ) (o : Operand) (front ts : Kinds) (final : Operand) (rest : Kinds) → OperandReads names n front o → grow names inner n least o ts ≡ Some (final, rest) → OperandFound names n (front ++ ts) final rest
+  grow_reads : (least : ℕ) (o : Operand) (prefix ts : Kinds) (final : Operand) (rest : Kinds) → OperandReads names n prefix o → grow names inner n least o ts ≡ Some (final, rest) → OperandFound names n (prefix ++ ts) final rest
   unfolding grow
-  grow_reads least o front ts final rest here is = grow_from_reads least (length ts) o front ts final rest here is
+  grow_reads least o prefix ts final rest here is = grow_from_reads least (length ts) o prefix ts final rest here is
 
   -- ---- closing
 
-  close_reads : (least k : ℕ) (o : Operand) (front ts : Kinds) (e : Expr) (h : ℕ) (rest : Kinds) → OperandReads names n front o → close names inner n least k o ts ≡ Some ((e, h), rest) → Reads (ExprReads names least) (suc n) (opens k (front ++ ts)) e h rest
+  close_reads : (least k : ℕ) (o : Operand) (prefix ts : Kinds) (e : Expr) (h : ℕ) (rest : Kinds) → OperandReads names n prefix o → close names inner n least k o ts ≡ Some ((e, h), rest) → ReadsPrefix (ExprReads names least) (suc n) (opens k (prefix ++ ts)) e h rest
   unfolding close
-  close_reads least zero o front ts e h rest here is = both_answer (grow names inner n least o ts) _ _ is (λ whole ks seen go.
-      let g = grow_reads least o front ts whole ks here seen in
+  close_reads least zero o prefix ts e h rest here is = both_answer (grow names inner n least o ts) _ _ is (λ whole ks seen go.
+      let g = grow_reads least o prefix ts whole ks here seen in
       tested_at (nat_le least whole.level) _ _ ks _ go
-      (λ fits last. pure_answer (ExprReads names least) (suc n) (front ++ ts) last (g.0, g.1, g.2.low, operand_expr least whole (leb-true _ _ fits) g.2))
+      (λ fits last. pure_answer (ExprReads names least) (suc n) (prefix ++ ts) last (g.0, g.1, g.2.low, operand_expr least whole (leb-true _ _ fits) g.2))
       (λ loose none. cc))
-  close_reads least (suc k) o front ts e h rest here is = both_answer (grow names inner n assign_level o ts) _ _ is (λ whole ks seen go.
-      let g = grow_reads assign_level o front ts whole ks here seen in
+  close_reads least (suc k) o prefix ts e h rest here is = both_answer (grow names inner n assign_level o ts) _ _ is (λ whole ks seen go.
+      let g = grow_reads assign_level o prefix ts whole ks here seen in
       mark_answer mark.RightParenthesis ks _ _ go (λ us close go.
       tested_at (nat_lt whole.pairs greatest_pairs) _ _ us _ go
       (λ few last.
-      let all : Mark mark.LeftParenthesis ∷ front ++ ts ≡ (Mark mark.LeftParenthesis ∷ g.0 ++ Mark mark.RightParenthesis ∷ []) ++ us = push (g.0 ++ Mark mark.RightParenthesis ∷ []) us refl (join g.0 (Mark mark.RightParenthesis ∷ []) us g.1 close) in
-      subst (λ vs. Reads (ExprReads names least) (suc n) (opens k vs) e h rest) (sym all)
+      let all : Mark mark.LeftParenthesis ∷ prefix ++ ts ≡ (Mark mark.LeftParenthesis ∷ g.0 ++ Mark mark.RightParenthesis ∷ []) ++ us = push (g.0 ++ Mark mark.RightParenthesis ∷ []) us refl (join g.0 (Mark mark.RightParenthesis ∷ []) us g.1 close) in
+      subst (λ vs. ReadsPrefix (ExprReads names least) (suc n) (opens k vs) e h rest) (sym all)
       (close_reads least k (bracketed whole) (Mark mark.LeftParenthesis ∷ g.0 ++ Mark mark.RightParenthesis ∷ []) us e h rest (bracketed_reads whole ((Decides-ltb whole.pairs greatest_pairs).0 few) g.2) last))
       (λ many none. cc)))
 
@@ -164,7 +165,7 @@ module _ (names : List (List ℕ)) (n : ℕ) (inner : Readers) (below : AreSound
   unary_reads op ts o rest is = tree_answer (inner.expr cast_level) (below.expr cast_level) ts _ _ is (λ a ha ks ats split low here last.
       plain_holds (λ o rest. OperandBehind names n (Mark (unary_mark op)) ts o rest) last (ats, split, simple_operand n unary_level (1 + ha) (above_low _ n low) (ExprForm.unary _ _ _ _ a op ha ats refl refl refl refl here)))
 
-  prefix_reads : (m : MarkName) (ts : Kinds) (o : Operand) (rest : Kinds) → prefix_by names inner m ts ≡ Some (o, rest) → OperandBehind names n (Mark m) ts o rest
+  prefix_reads : (m : MarkName) (ts : Kinds) (o : Operand) (rest : Kinds) → prefixed_by names inner m ts ≡ Some (o, rest) → OperandBehind names n (Mark m) ts o rest
   prefix_reads mark.LeftParenthesis ts o rest is = cast_reads ts o rest is
   prefix_reads mark.Increment ts o rest is = tree_answer (inner.expr unary_level) (below.expr unary_level) ts _ _ is (λ a ha ks ats split low here last.
       plain_holds (λ o rest. OperandBehind names n (Mark mark.Increment) ts o rest) last (ats, split, simple_operand n unary_level (1 + ha) (above_low _ n low) (ExprForm.pre_increment _ _ _ _ a ha ats refl refl refl refl here)))
@@ -178,7 +179,7 @@ module _ (names : List (List ℕ)) (n : ℕ) (inner : Readers) (below : AreSound
   prefix_reads _ ts o rest is = cc
 
   head_by_reads : (k : Kind) (ts : Kinds) (o : Operand) (rest : Kinds) → head_by names inner k ts ≡ Some (o, rest) → OperandBehind names n k ts o rest
-  unfolding prefix
+  unfolding prefixed
   head_by_reads (Name x) ts o rest is = tested_at (is_type_name names x) _ _ ts _ is
       (λ known none. cc)
       (λ free last. plain_holds (λ o rest. OperandBehind names n (Name x) ts o rest) last ([], refl, simple_operand n primary_level 1 (one_low n) (ExprForm.identifier _ _ _ _ x refl refl (no_type_name_is_free names x free) refl refl)))

@@ -12,7 +12,9 @@ use Rattle.c_expr.specs.declared.operand.Part.{Part}
 use Rattle.c_expr.specs.inner.Parser.{behind, separated}
 use Rattle.c_expr.specs.inner.Readers.{Readers, free_name, continuation_of, continuation, whole_level, left_level, part_level, with_part, arguments, index, arms, part}
 use Rattle.c_expr.specs.Theorems.{ReadsOnly, AreSound}
-use Rattle.c_expr.proofs.soundness.Chains.{both_answer, tree_answer, mark_answer, eaten, pure_answer, join, push, max_low, zero_low, ListReads, separated_found}
+use Rattle.c_expr.specs.inner.ParserLemmas.{both_answer, mark_answer, eaten, join}
+use Rattle.c_expr.proofs.soundness.Chains.{tree_answer, pure_answer, push, max_low, zero_low}
+use Rattle.c_expr.proofs.SeparatedLists.{SeparatedRead, separated_found}
 use Rattle.c_expr.proofs.soundness.Declarators.{free_name_is}
 
 -- the mark with which it begins
@@ -43,13 +45,13 @@ continuation_mark (Number n ∷ ks) c is = cc
 continuation_mark (Text b ∷ ks) c is = cc
 continuation_mark (Mark m ∷ ks) c is = ap (λ k. Mark k ∷ ks) (subst (λ o. MarkIs o m) is (mark_begins m))
 
-pub arguments_read : {names : List (List ℕ)} {h : ℕ} {ts : Kinds} {es : List Expr} → ListReads (ExprReads names assign_level) h ts es → ArgumentListReads names h ts es
-arguments_read (ListReads.one h ts es e is here) = ArgumentListReads.one_argument _ _ _ e is here
-arguments_read (ListReads.more h ts es e others he ho ets os hi split is here behind) = ArgumentListReads.more_arguments _ _ _ e others he ho ets os hi split is here (arguments_read behind)
+pub arguments_read : {names : List (List ℕ)} {h : ℕ} {ts : Kinds} {es : List Expr} → SeparatedRead (ExprReads names assign_level) h ts es → ArgumentListReads names h ts es
+arguments_read (SeparatedRead.one_item h ts es e is here) = ArgumentListReads.one_argument _ _ _ e is here
+arguments_read (SeparatedRead.more_items h ts es e others he ho ets os hi split is here behind) = ArgumentListReads.more_arguments _ _ _ e others he ho ets os hi split is here (arguments_read behind)
 
 -- what goes on behind an operand, and makes an expression of any operand that may stand there
 abbrev pub PartReads : List (List ℕ) → Continuation → ℕ → Kinds → Part → Type 0
-PartReads names c h front p = (part_level p ≡ whole_level c) × ((a : Expr) (ha : ℕ) (ats : Kinds) → ExprReads names (left_level c) ha ats a → ExprForm names (whole_level c) (1 + max ha h) (ats ++ Mark (mark_of c) ∷ front) (with_part a p))
+PartReads names c h prefix p = (part_level p ≡ whole_level c) × ((a : Expr) (ha : ℕ) (ats : Kinds) → ExprReads names (left_level c) ha ats a → ExprForm names (whole_level c) (1 + max ha h) (ats ++ Mark (mark_of c) ∷ prefix) (with_part a p))
 
 -- arguments, and the parenthesis behind them
 abbrev GivenReads : List (List ℕ) → ℕ → Kinds → List Expr → Type 0
@@ -93,9 +95,9 @@ module _ (names : List (List ℕ)) (n : ℕ) (inner : Readers) (below : AreSound
   pub part_reads : (c : Continuation) → ReadsOnly (part names inner c) n (PartReads names c)
   unfolding part
   part_reads goes.Index ts p h rest is = index_reads ts p h rest is
-  part_reads goes.Call ts p h rest is = tree_answer (arguments names inner) arguments_reads ts _ _ is (λ es he ks front split low given last.
+  part_reads goes.Call ts p h rest is = tree_answer (arguments names inner) arguments_reads ts _ _ is (λ es he ks prefix split low given last.
       pure_answer (PartReads names goes.Call) n ts last (
-        front,
+        prefix,
         split,
         low,
         (refl, λ f hf fs left. ExprForm.call _ _ _ _ f es hf he fs given.0 refl refl (ap (λ us. fs ++ Mark mark.LeftParenthesis ∷ us) given.1) refl left given.2),

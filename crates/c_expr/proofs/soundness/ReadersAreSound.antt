@@ -8,8 +8,8 @@ use Rattle.c_expr.specs.declared.brackets.Bracketed.{Bracketed}
 use Rattle.c_expr.specs.inner.Parser.{Tall, mismatch}
 use Rattle.c_expr.specs.inner.Readers.{Readers, nothing, readers, direct_of, direct, declarator, abstract, spec, struct_body, member, members, members_from}
 use Rattle.c_expr.specs.Theorems.{ReadsOnly, AreSound, ReadersAreSound}
-use Rattle.c_expr.proofs.soundness.Chains.{both_answer, mark_answer}
-use Rattle.c_expr.proofs.soundness.TypeWords.{abstract_reads}
+use Rattle.c_expr.specs.inner.ParserLemmas.{both_answer, mark_answer}
+use Rattle.c_expr.proofs.soundness.AbstractDeclarators.{abstract_reads}
 use Rattle.c_expr.proofs.soundness.Declarators.{direct_found, declarator_reads}
 use Rattle.c_expr.proofs.soundness.Specs.{NamedReads, TagReads, struct_body_reads, spec_reads, type_word_reads, params_reads}
 use Rattle.c_expr.proofs.soundness.Expressions.{level_reads}
@@ -37,7 +37,7 @@ unfolding struct_body members
 no_body names bodies x ts s h rest is = mark_answer mark.LeftBrace ts _ _ is (λ ks begin go. both_answer (members names nothing ks) _ _ go (λ ms us seen last. absurd (no_members names _ [] 0 ks (ms, us) seen)))
 
 direct_sound : (names : List (List ℕ)) (n : ℕ) (inner : Readers) → AreSound names n inner → (ts : Kinds) (b : Bracketed) (rest : Kinds) → direct names inner n ts ≡ Some (b, rest)
-    → (front : Kinds) × (ts ≡ front ++ rest) × ((x : List ℕ) × DirectReads names b.height x front (direct_of b.core))
+    → (prefix : Kinds) × (ts ≡ prefix ++ rest) × ((x : List ℕ) × DirectReads names b.height x prefix (direct_of b.core))
 direct_sound names n inner below ts b rest is = let d = direct_found names n inner below ts b rest is in (d.0, d.2, (d.1, d.3))
 
 nothing_tall : {A : Type 0} (depth : ℕ) (R : ℕ → Kinds → A → Type 0) → ReadsOnly {A = A} mismatch depth R

@@ -17,22 +17,23 @@ use Rattle.c_expr.specs.inner.Parser.{Parser, Tall, same_mark, same_word, is_wor
 use Rattle.c_expr.specs.inner.Readers.{Readers, is_type_name, free_name, member, members_from, members, struct_body, struct, spec_by, spec, type_word, looks_named, param, is_void_alone, params}
 use Rattle.c_expr.specs.Theorems.{ReadsOnly, ClosesParenthesis, AreSound}
 use Rattle.c_expr.proofs.TypeNames.{type_name_contains}
-use Rattle.c_expr.proofs.Steps.{same_word_true}
-use Rattle.c_expr.proofs.soundness.Chains.{both_true, both_answer, tree_answer, mark_answer, tested, tested_at, eaten, pure_answer, pure_holds, Reads, join, push, max_low, zero_low, above_low, ListReads, separated_found, Found, found_all}
+use Rattle.c_expr.specs.inner.ParserLemmas.{same_word_true, both_answer, mark_answer, tested, tested_at, eaten, ReadsPrefix, join, Found, found_all}
+use Rattle.c_expr.proofs.soundness.Chains.{both_true, tree_answer, pure_answer, pure_holds, push, max_low, zero_low, above_low}
+use Rattle.c_expr.proofs.SeparatedLists.{SeparatedRead, separated_found}
 use Rattle.c_expr.proofs.soundness.Declarators.{free_name_is}
 
 -- a declarator of some name
 abbrev pub NamedReads : List (List ℕ) → ℕ → Kinds → Declarator → Type 0
 NamedReads names h ts d = (x : List ℕ) × DeclaratorReads names h x ts d
 
-pub declarators_read : {names : List (List ℕ)} {h : ℕ} {ts : Kinds} {ds : List Declarator} → ListReads (NamedReads names) h ts ds → (xs : List (List ℕ)) × DeclaratorsRead names h xs ts ds
-declarators_read (ListReads.one h ts ds d is here) = (here.0 ∷ [], DeclaratorsRead.one_declarator _ _ _ _ d here.0 refl is here.1)
-declarators_read (ListReads.more h ts ds d others hd ho dts os hi split is here behind) =
+pub declarators_read : {names : List (List ℕ)} {h : ℕ} {ts : Kinds} {ds : List Declarator} → SeparatedRead (NamedReads names) h ts ds → (xs : List (List ℕ)) × DeclaratorsRead names h xs ts ds
+declarators_read (SeparatedRead.one_item h ts ds d is here) = (here.0 ∷ [], DeclaratorsRead.one_declarator _ _ _ _ d here.0 refl is here.1)
+declarators_read (SeparatedRead.more_items h ts ds d others hd ho dts os hi split is here behind) =
     let o = declarators_read behind in (here.0 ∷ o.0, DeclaratorsRead.more_declarators _ _ _ _ d here.0 others o.0 hd ho dts os hi refl split is here.1 o.1)
 
-pub params_read : {names : List (List ℕ)} {h : ℕ} {ts : Kinds} {ps : List Param} → ListReads (ParamReads names) h ts ps → ParamListReads names h ts ps
-params_read (ListReads.one h ts ps p is here) = ParamListReads.one_param _ _ _ p is here
-params_read (ListReads.more h ts ps p others hp ho pts os hi split is here behind) = ParamListReads.more_params _ _ _ p others hp ho pts os hi split is here (params_read behind)
+pub params_read : {names : List (List ℕ)} {h : ℕ} {ts : Kinds} {ps : List Param} → SeparatedRead (ParamReads names) h ts ps → ParamListReads names h ts ps
+params_read (SeparatedRead.one_item h ts ps p is here) = ParamListReads.one_param _ _ _ p is here
+params_read (SeparatedRead.more_items h ts ps p others hp ho pts os hi split is here behind) = ParamListReads.more_params _ _ _ p others hp ho pts os hi split is here (params_read behind)
 
 -- one member, with its semicolon
 pub record MemberReads (names : List (List ℕ)) (h : ℕ) (ts : Kinds) (m : MemberDecl) : Type 0 where
@@ -83,41 +84,41 @@ module _ (names : List (List ℕ)) (n : ℕ) (inner : Readers) (below : AreSound
   members_from_found : (k : ℕ) (found : List MemberDecl) (h : ℕ) (ts : Kinds) (all : List MemberDecl) (H : ℕ) (rest : Kinds) → members_from names inner k found h ts ≡ Some ((all, H), rest) → Found (BodyReads names) n found h ts all H rest
   unfolding members_from
   members_from_found zero found h ts all H rest is = cc
-  members_from_found (suc k) found h ts all H rest is = tree_answer (member names inner) member_reads ts _ _ is (λ m hm ks front split low here go.
+  members_from_found (suc k) found h ts all H rest is = tree_answer (member names inner) member_reads ts _ _ is (λ m hm ks prefix split low here go.
       eaten mark.RightBrace ks _ _ _ go
       (λ us close last. pure_holds (λ all H rest. Found (BodyReads names) n found h ts all H rest) last (
         m ∷ [],
         max hm 0,
-        (front ++ []) ++ Mark mark.RightBrace ∷ [],
+        (prefix ++ []) ++ Mark mark.RightBrace ∷ [],
         refl,
         omega arith,
-        join (front ++ []) (Mark mark.RightBrace ∷ []) us (join front [] ks split refl) close,
+        join (prefix ++ []) (Mark mark.RightBrace ∷ []) us (join prefix [] ks split refl) close,
         max_low _ _ _ low (zero_low n),
-        (front ++ [], refl, (λ none. cc), member_more names hm 0 front [] m [] here (MembersRead.no_member _ _ _ refl refl refl)),
+        (prefix ++ [], refl, (λ none. cc), member_more names hm 0 prefix [] m [] here (MembersRead.no_member _ _ _ refl refl refl)),
       ))
       (λ none more.
       let o = members_from_found k (found ++ m ∷ []) (max h hm) ks all H rest more in (
         m ∷ o.0,
         max hm o.1,
-        front ++ o.2,
+        prefix ++ o.2,
         o.3 ∙ append_assoc found (m ∷ []) o.0,
         omega (arith, o.4),
-        join front o.2 rest split o.5,
+        join prefix o.2 rest split o.5,
         max_low _ _ _ low o.6,
-        (front ++ o.7.0, ap (λ us. front ++ us) o.7.1 ∙ sym (append_assoc front o.7.0 (Mark mark.RightBrace ∷ [])), (λ none. cc), member_more names hm o.1 front o.7.0 m o.0 here o.7.3),
+        (prefix ++ o.7.0, ap (λ us. prefix ++ us) o.7.1 ∙ sym (append_assoc prefix o.7.0 (Mark mark.RightBrace ∷ [])), (λ none. cc), member_more names hm o.1 prefix o.7.0 m o.0 here o.7.3),
       )))
 
   members_read : ReadsOnly (members names inner) n (BodyReads names)
   unfolding members
-  members_read ts all H rest is = found_all _ n ts all H rest (members_from_found (length ts) [] 0 ts all H rest is)
+  members_read ts all H rest is = found_all (members_from_found (length ts) [] 0 ts all H rest is)
 
   pub struct_body_reads : (bodies : Bool) (x : List ℕ) → ReadsOnly (struct_body names inner x) (suc n) (TagReads names bodies x)
   unfolding struct_body
   struct_body_reads bodies x ts s h rest is = mark_answer mark.LeftBrace ts _ _ is (λ ks begin go.
-      tree_answer (members names inner) members_read ks _ _ go (λ ms hm us front split low body last.
+      tree_answer (members names inner) members_read ks _ _ go (λ ms hm us prefix split low body last.
       pure_answer (TagReads names bodies x) (suc n) ts last (
-        Mark mark.LeftBrace ∷ front,
-        push front us begin split,
+        Mark mark.LeftBrace ∷ prefix,
+        push prefix us begin split,
         above_low _ n low,
         λ may free. SpecReads.body _ _ _ _ x hm body.0 ms may refl free (ap (λ us. Word word.Struct ∷ Name x ∷ Mark mark.LeftBrace ∷ us) body.1) refl body.2 body.3,
       )))
@@ -139,7 +140,7 @@ module _ (names : List (List ℕ)) (deep : ℕ) (inner : Readers) (body : (bodie
       (λ has go. let b = body bodies x ks s h rest go in (Name x ∷ b.0, push b.0 rest f.1 b.1, b.2, b.3 (both_true bodies (sees mark.LeftBrace ks) has).0 f.0))
       (λ none last. pure_answer (λ h ts s. SpecReads names bodies h (Word word.Struct ∷ ts) s) deep ts last (Name x ∷ [], f.1, zero_low deep, SpecReads.tag _ _ _ _ x refl f.0 refl refl)))
 
-  spec_by_reads : (bodies : Bool) (k : Kind) (ks : Kinds) (s : Spec) (h : ℕ) (rest : Kinds) → spec_by names inner bodies k ks ≡ Some ((s, h), rest) → Reads (SpecReads names bodies) deep (k ∷ ks) s h rest
+  spec_by_reads : (bodies : Bool) (k : Kind) (ks : Kinds) (s : Spec) (h : ℕ) (rest : Kinds) → spec_by names inner bodies k ks ≡ Some ((s, h), rest) → ReadsPrefix (SpecReads names bodies) deep (k ∷ ks) s h rest
   spec_by_reads bodies (Word word.Int) ks s h rest is = pure_answer (SpecReads names bodies) deep _ is (Word word.Int ∷ [], refl, zero_low deep, SpecReads.int _ _ _ _ refl refl refl)
   spec_by_reads bodies (Word word.Char) ks s h rest is = pure_answer (SpecReads names bodies) deep _ is (Word word.Char ∷ [], refl, zero_low deep, SpecReads.char _ _ _ _ refl refl refl)
   spec_by_reads bodies (Word word.Void) ks s h rest is = pure_answer (SpecReads names bodies) deep _ is (Word word.Void ∷ [], refl, zero_low deep, SpecReads.void _ _ _ _ refl refl refl)
@@ -169,9 +170,9 @@ module _ (names : List (List ℕ)) (deep : ℕ) (specs : Bool → Parser (Tall S
   void_alone [] is = cc
   void_alone (k ∷ ks) is = void_first k ks is
 
-  alone_is : (ts front rest ks : Kinds) → ts ≡ front ++ rest → front ≡ Word word.Void ∷ [] → rest ≡ Mark mark.RightParenthesis ∷ ks → is_void_alone names specs declarators abstracts ts ≡ true
+  alone_is : (ts prefix rest ks : Kinds) → ts ≡ prefix ++ rest → prefix ≡ Word word.Void ∷ [] → rest ≡ Mark mark.RightParenthesis ∷ ks → is_void_alone names specs declarators abstracts ts ≡ true
   unfolding same_word same_mark
-  alone_is ts front rest ks split is close = subst (λ us. is_void_alone names specs declarators abstracts us ≡ true) (sym (split ∙ ap (λ us. us ++ rest) is ∙ ap (λ us. Word word.Void ∷ us) close)) refl
+  alone_is ts prefix rest ks split is close = subst (λ us. is_void_alone names specs declarators abstracts us ≡ true) (sym (split ∙ ap (λ us. us ++ rest) is ∙ ap (λ us. Word word.Void ∷ us) close)) refl
 
   param_reads : ReadsOnly (param names specs declarators abstracts) deep (ParamReads names)
   unfolding param
@@ -182,12 +183,12 @@ module _ (names : List (List ℕ)) (deep : ℕ) (specs : Bool → Parser (Tall S
       (λ none go. tree_answer abstracts abstract_is ks _ _ go (λ a ha us ats cut short here last.
       pure_answer (ParamReads names) deep ts last (ss ++ ats, join ss ats us split cut, max_low _ _ _ low short, ParamReads.unnamed _ _ _ s a hs ha ss ats refl refl refl spec_here here))))
 
-  pub params_reads : (ts : Kinds) (p : Params) (h : ℕ) (rest : Kinds) → ClosesParenthesis rest → params names specs declarators abstracts ts ≡ Some ((p, h), rest) → Reads (ParamsRead names) deep ts p h rest
+  pub params_reads : (ts : Kinds) (p : Params) (h : ℕ) (rest : Kinds) → ClosesParenthesis rest → params names specs declarators abstracts ts ≡ Some ((p, h), rest) → ReadsPrefix (ParamsRead names) deep ts p h rest
   unfolding params
   params_reads ts p h rest closes is = tested (sees mark.RightParenthesis ts) _ _ _ is
       (λ none last. pure_answer (ParamsRead names) deep ts last ([], refl, zero_low deep, ParamsRead.nothing _ _ _ refl refl refl))
       (λ some go. tested (is_void_alone names specs declarators abstracts ts) _ _ _ go
       (λ void last. pure_answer (ParamsRead names) deep ts last (Word word.Void ∷ [], void_alone ts void, zero_low deep, ParamsRead.void_alone _ _ _ refl refl refl))
-      (λ no_void go. tree_answer (separated (param names specs declarators abstracts)) (separated_found (ParamReads names) (param names specs declarators abstracts) deep param_reads) ts _ _ go (λ ps hp us front split low here last.
-      pure_holds (λ p h rest. ClosesParenthesis rest → Reads (ParamsRead names) deep ts p h rest) last
-      (λ closes. (front, split, low, ParamsRead.some _ _ _ ps (λ is. false≢true (sym no_void ∙ alone_is ts front us closes.0 split is closes.1)) refl (params_read here))) closes)))
+      (λ no_void go. tree_answer (separated (param names specs declarators abstracts)) (separated_found (ParamReads names) (param names specs declarators abstracts) deep param_reads) ts _ _ go (λ ps hp us prefix split low here last.
+      pure_holds (λ p h rest. ClosesParenthesis rest → ReadsPrefix (ParamsRead names) deep ts p h rest) last
+      (λ closes. (prefix, split, low, ParamsRead.some _ _ _ ps (λ is. false≢true (sym no_void ∙ alone_is ts prefix us closes.0 split is closes.1)) refl (params_read here))) closes)))

@@ -4,10 +4,9 @@ use Rattle.std.specs.declared.alloc.Global.{Global}
 use denote.Ref.{Bor, MutBor}
 use Rattle.c_tree.specs.declared.expression.Expr.{Expr}
 use Rattle.c_tree.specs.declared.expression.Params.{Params}
-use Rattle.c_tree.specs.Marks.{Kinds}
+use Rattle.c_tree.specs.Marks.{Kinds, greatest_pairs, assign_level}
 use Rattle.c_expr.specs.declared.error.Failure.{Failure}
 use Rattle.c_tokens.specs.declared.token.Mark.TheVariants as mark
-use Rattle.c_tree.specs.Marks.{greatest_pairs, assign_level}
 use Rattle.c_expr.specs.declared.operand.Operand.{Operand}
 use Rattle.c_expr.specs.inner.Parser.{Parser, Tall, ◌>>=◌, ◌>>◌, pure, mismatch, expect}
 use Rattle.c_expr.specs.inner.Readers.{Readers, readers, nothing, grow, bracketed}

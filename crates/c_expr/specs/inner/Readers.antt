@@ -477,19 +477,19 @@ module _ (names : List (List ℕ)) where
       a ← inner.expr cast_level
       pure (operand unary_level (e.Unary op a.0) (1 + a.1))
 
-    abbrev pub prefix_by : MarkName → Parser Operand
-    prefix_by mark.LeftParenthesis = cast
-    prefix_by mark.Increment = inner.expr unary_level >>= (λ a. pure (operand unary_level (e.PreIncrement a.0) (1 + a.1)))
-    prefix_by mark.Decrement = inner.expr unary_level >>= (λ a. pure (operand unary_level (e.PreDecrement a.0) (1 + a.1)))
-    prefix_by mark.Ampersand = unary_behind unary.Address
-    prefix_by mark.Star = unary_behind unary.Dereference
-    prefix_by mark.Minus = unary_behind unary.Negate
-    prefix_by mark.Tilde = unary_behind unary.Complement
-    prefix_by mark.Exclamation = unary_behind unary.Not
-    prefix_by _ = mismatch
+    abbrev pub prefixed_by : MarkName → Parser Operand
+    prefixed_by mark.LeftParenthesis = cast
+    prefixed_by mark.Increment = inner.expr unary_level >>= (λ a. pure (operand unary_level (e.PreIncrement a.0) (1 + a.1)))
+    prefixed_by mark.Decrement = inner.expr unary_level >>= (λ a. pure (operand unary_level (e.PreDecrement a.0) (1 + a.1)))
+    prefixed_by mark.Ampersand = unary_behind unary.Address
+    prefixed_by mark.Star = unary_behind unary.Dereference
+    prefixed_by mark.Minus = unary_behind unary.Negate
+    prefixed_by mark.Tilde = unary_behind unary.Complement
+    prefixed_by mark.Exclamation = unary_behind unary.Not
+    prefixed_by _ = mismatch
 
-    unfoldable pub prefix : MarkName → Parser Operand
-    prefix m = prefix_by m
+    unfoldable pub prefixed : MarkName → Parser Operand
+    prefixed m = prefixed_by m
 
     abbrev pub head_by : Kind → Parser Operand
     head_by (Name x) = if is_type_name names x then mismatch else pure (leaf (e.Identifier x))
@@ -497,9 +497,9 @@ module _ (names : List (List ℕ)) where
     head_by (Text bytes) = pure (leaf (e.Text bytes))
     head_by (Word word.Sizeof) = sizeof
     head_by (Word w) = mismatch
-    head_by (Mark m) = prefix m
+    head_by (Mark m) = prefixed m
 
-    -- the front of an expression: a primary without parentheses, or a prefix and its operand
+    -- what begins an expression: a primary without parentheses, or a prefix operator and its operand
     unfoldable pub head : Parser Operand
     head [] = None
     head (k ∷ ks) = head_by k ks

@@ -18,14 +18,14 @@ use Rattle.c_tree.specs.Grammar.{SpecReads, DeclaratorsRead, DeclaratorReads}
 use Rattle.c_tree.specs.Statements.{InitReads, StmtReads, BlockReads, ItemReads}
 use Rattle.c_expr.specs.inner.Parser.{Parser, Outcome, Tall, same_mark, sees}
 use Rattle.c_expr.specs.inner.Readers.{Readers, readers}
-use Rattle.c_expr.specs.Theorems.{AreComplete, ReadersAreComplete, Takes, Stops, Lacks, LacksSuffix}
-use Rattle.c_expr.proofs.FirstTokensLemmas.{Begins, Begins-append, CanBeginSpec, SpecReads-begins}
+use Rattle.c_expr.specs.Theorems.{AreComplete, ReadersAreComplete, Takes, Stops, Lacks, LacksSuffix, ExpressionLaws, FirstTokens}
+use Rattle.c_expr.specs.FirstTokens.{Begins, CanBeginSpec}
+use Rattle.c_expr.specs.inner.FirstTokensLemmas.{Begins-append}
 use Rattle.c_parser.specs.inner.Readers.{sees_word, decl_of, types_from, types, type_definition, item_of, untyped, item_over, init, stmt, item}
 use Rattle.c_parser.proofs.ChainLemmas.{then_takes, if_yes, if_no, eats, leaves, expects, eats_word, leaves_word}
-use Rattle.c_parser.proofs.completeness.FirstTokens.{GoesOn, begins_some, spec_no_word, goes_on_lacks, no_suffix, brace_no_suffix, semicolon_ends, comma_ends, ends_goes_on, semicolon_no_comma, semicolon_no_brace, declarator_no_brace, declarator_no_semicolon}
+use Rattle.c_parser.proofs.completeness.StatementsBegin.{GoesOn, begins_some, spec_no_word, goes_on_lacks, no_suffix, brace_no_suffix, semicolon_ends, comma_ends, ends_goes_on, semicolon_no_comma, semicolon_no_brace, declarator_no_brace, declarator_no_semicolon}
 use Rattle.c_parser.proofs.completeness.Declarations.{at_tokens, DeclParts, decl_parts, decl_begins, init_over_takes}
 use Rattle.c_parser.proofs.completeness.Statements.{StmtsTake, block_takes, stmt_over_takes}
-use Rattle.c_expr.proofs.completeness.FirstTokens.{DeclaratorReads-begins}
 
 block_opens : {names : List (List ℕ)} {h : ℕ} {bs : Kinds} {b : Block} (rest : Kinds) → BlockReads names h bs b → sees mark.LeftBrace (bs ++ rest) ≡ true
 unfolding same_mark
@@ -34,7 +34,7 @@ block_opens rest (BlockReads.braces h ts b items ps is bi read) = rw is refl
 block_no_suffix : {names : List (List ℕ)} {h : ℕ} {bs : Kinds} {b : Block} (rest : Kinds) → BlockReads names h bs b → LacksSuffix (bs ++ rest)
 block_no_suffix rest (BlockReads.braces h ts b items ps is bi read) = rw is (brace_no_suffix ((ps ++ Mark mark.RightBrace ∷ []) ++ rest))
 
-module _ (named : DeclaratorsDeclareTheirNames) (names : List (List ℕ)) (depth : ℕ) (r : Readers) (complete : AreComplete names depth r) where
+module _ (named : DeclaratorsDeclareTheirNames) (names : List (List ℕ)) (first : FirstTokens names) (depth : ℕ) (r : Readers) (complete : AreComplete names depth r) where
   module _ (init : Parser (Tall Init)) (init_takes : (h : ℕ) (ts : Kinds) (i : Init) → h ≤ depth → InitReads names h ts i → Takes init (Stops assign_level) h ts i) where
     module _ (inner : Parser (Tall Stmt)) (inner_takes : StmtsTake names depth inner) where
       -- ---- type definitions
@@ -43,7 +43,7 @@ module _ (named : DeclaratorsDeclareTheirNames) (names : List (List ℕ)) (depth
       declarator_takes {h} {x} {ds} {d} deep read rest on = complete.declarator h x ds d deep read rest (no_suffix rest on)
 
       declarators_some : {h : ℕ} {xs : List (List ℕ)} {ts : Kinds} {ds : List Declarator} → DeclaratorsRead names h xs ts ds → 0 < length ts
-      declarators_some (DeclaratorsRead.one_declarator h xs ts ds d x xi di read) = begins_some _ ts (DeclaratorReads-begins read)
+      declarators_some (DeclaratorsRead.one_declarator h xs ts ds d x xi di read) = begins_some _ ts (first.declarator read)
       declarators_some (DeclaratorsRead.more_declarators h xs ts ds d x others ys hd ho dts os hh xi is di read more) =
           let long = ap (λ ks. length ks) is in let both = length-append dts (Mark mark.Comma ∷ os) in omega arith
 
@@ -70,9 +70,9 @@ module _ (named : DeclaratorsDeclareTheirNames) (names : List (List ℕ)) (depth
       spec_takes {h} {ss} {s} deep read rest lacks = complete.spec true h ss s deep read rest lacks
 
       declarators_no_brace : {h : ℕ} {xs : List (List ℕ)} {ts : Kinds} {ds : List Declarator} → DeclaratorsRead names h xs ts ds → (rest : Kinds) → Lacks mark.LeftBrace (ts ++ rest)
-      declarators_no_brace (DeclaratorsRead.one_declarator h xs ts ds d x xi di read) rest = declarator_no_brace rest read
+      declarators_no_brace (DeclaratorsRead.one_declarator h xs ts ds d x xi di read) rest = declarator_no_brace first rest read
       declarators_no_brace (DeclaratorsRead.more_declarators h xs ts ds d x others ys hd ho dts os hh xi is di read more) rest =
-          rw (is, append_assoc dts (Mark mark.Comma ∷ os) rest) (declarator_no_brace (Mark mark.Comma ∷ (os ++ rest)) read)
+          rw (is, append_assoc dts (Mark mark.Comma ∷ os) rest) (declarator_no_brace first (Mark mark.Comma ∷ (os ++ rest)) read)
 
       typedef_takes : {hs hd : ℕ} {ss dts : Kinds} {s : Spec} {new : List (List ℕ)} {ds : List Declarator} → hs ≤ depth → hd ≤ depth → SpecReads names true hs ss s → DeclaratorsRead names hd new dts ds → (rest : Kinds)
           → type_definition names r init inner ((ss ++ dts ++ Mark mark.Semicolon ∷ []) ++ rest) ≡ Some ((item_as.Typedef s ds, new), rest)
@@ -90,7 +90,7 @@ module _ (named : DeclaratorsDeclareTheirNames) (names : List (List ℕ)) (depth
       definition_takes : {hb : ℕ} {bs : Kinds} {b : Block} (s : Tall Spec) (d : Tall Declarator) → hb ≤ depth → BlockReads names hb bs b → (rest : Kinds) → item_of names r init inner s d (bs ++ rest) ≡ Some ((item_as.Function s.0 d.0 b, []), rest)
       unfolding item_of
       definition_takes {hb} {bs} {b} s d deep read rest = if_yes (sees mark.LeftBrace (bs ++ rest)) _ _ _ (block_opens rest read)
-          (then_takes _ _ (b, hb) rest _ (block_takes names depth r complete init init_takes inner inner_takes deep read rest) refl)
+          (then_takes _ _ (b, hb) rest _ (block_takes names first depth r complete init init_takes inner inner_takes deep read rest) refl)
 
       declaration_takes : {ha : ℕ} {ts : Kinds} {a : Decl} (s : Tall Spec) (d : Tall Declarator) (rest : Kinds) → GoesOn ts → decl_of names r init s d ts ≡ Some ((a, ha), rest) → item_of names r init inner s d ts ≡ Some ((item_as.Decl a, []), rest)
       unfolding item_of
@@ -101,15 +101,15 @@ module _ (named : DeclaratorsDeclareTheirNames) (names : List (List ℕ)) (depth
           → item_of names r init inner (s, hs) (d, hd) ts ≡ z → untyped names r init inner (ss ++ (ds ++ ts)) ≡ z
       unfolding untyped
       declared_takes {hs} {hd} {x} {ss} {ds} {s} {d} z deep low sread dread ts none is =
-          then_takes _ _ (s, hs) (ds ++ ts) _ (spec_takes deep sread (ds ++ ts) (declarator_no_brace ts dread))
-          (leaves mark.Semicolon (ds ++ ts) _ _ _ (declarator_no_semicolon ts dread)
+          then_takes _ _ (s, hs) (ds ++ ts) _ (spec_takes deep sread (ds ++ ts) (declarator_no_brace first ts dread))
+          (leaves mark.Semicolon (ds ++ ts) _ _ _ (declarator_no_semicolon first ts dread)
           (then_takes _ _ (d, hd) ts _ (complete.declarator hd x ds d low dread ts none) is))
 
       bare_takes : {h : ℕ} {ss : Kinds} {s : Spec} → h ≤ depth → SpecReads names true h ss s → (rest : Kinds) → untyped names r init inner (ss ++ Mark mark.Semicolon ∷ rest) ≡ Some ((item_as.Decl (record { spec = s; declarators = [] }), []), rest)
       unfolding untyped
       bare_takes {h} {s = s} deep read rest = then_takes _ _ (s, h) (Mark mark.Semicolon ∷ rest) _ (spec_takes deep read (Mark mark.Semicolon ∷ rest) (semicolon_no_brace rest)) (eats mark.Semicolon rest _ _ _ refl)
 
-      decl_item : {h : ℕ} {ts : Kinds} {a : Decl} → h ≤ depth → DeclParts names depth r complete init init_takes h ts a → (rest : Kinds) → untyped names r init inner (ts ++ rest) ≡ Some ((item_as.Decl a, []), rest)
+      decl_item : {h : ℕ} {ts : Kinds} {a : Decl} → h ≤ depth → DeclParts names first depth r complete init init_takes h ts a → (rest : Kinds) → untyped names r init inner (ts ++ rest) ≡ Some ((item_as.Decl a, []), rest)
       decl_item deep (DeclParts.bare s ss read is ai) rest = rw (is, ai, append_assoc ss (Mark mark.Semicolon ∷ []) rest) (bare_takes deep read rest)
       decl_item deep (DeclParts.full s hs ss d hd x ds its ls ld is sread dread on behind) rest = rw (is, append_assoc (ss ++ ds) its rest, append_assoc ss ds (its ++ rest))
           (declared_takes _ (omega arith) (omega arith) sread dread (its ++ rest) (no_suffix _ (on rest)) (declaration_takes (s, hs) (d, hd) rest (on rest) (behind rest)))
@@ -126,16 +126,16 @@ module _ (named : DeclaratorsDeclareTheirNames) (names : List (List ℕ)) (depth
 
       pub item_over_takes : {h : ℕ} {new : List (List ℕ)} {ts : Kinds} {i : Item} → h ≤ depth → ItemReads names h new ts i → (rest : Kinds) → item_over names r init inner (ts ++ rest) ≡ Some ((i, new), rest)
       unfolding item_over
-      item_over_takes deep (ItemReads.declaration h new ts i d ni ii read) rest = rw (ni, ii) (leaves_word word.Typedef (ts ++ rest) _ _ _ (begins_no_typedef ts rest (decl_begins names depth r complete init init_takes read))
-          (decl_item deep (decl_parts names depth r complete init init_takes deep read) rest))
+      item_over_takes deep (ItemReads.declaration h new ts i d ni ii read) rest = rw (ni, ii) (leaves_word word.Typedef (ts ++ rest) _ _ _ (begins_no_typedef ts rest (decl_begins names first depth r complete init init_takes read))
+          (decl_item deep (decl_parts names first depth r complete init init_takes deep read) rest))
       item_over_takes deep (ItemReads.type_definition h new ts i s ds hs hd ss dts hh is ii sread dread) rest = rw (is, ii) (eats_word word.Typedef ((ss ++ dts ++ Mark mark.Semicolon ∷ []) ++ rest) _ _ _ (typedef_takes (omega arith) (omega arith) sread dread rest))
       item_over_takes deep (ItemReads.definition h new ts i s d b x hs hd hb ss ds bs ni hh is ii sread dread bread) rest = rw (ni, is, ii)
-          (leaves_word word.Typedef ((ss ++ ds ++ bs) ++ rest) _ _ _ (begins_no_typedef (ss ++ ds ++ bs) rest (Begins-append _ (ss ++ ds) bs (Begins-append _ ss ds (SpecReads-begins sread))))
+          (leaves_word word.Typedef ((ss ++ ds ++ bs) ++ rest) _ _ _ (begins_no_typedef (ss ++ ds ++ bs) rest (Begins-append _ (ss ++ ds) bs (Begins-append _ ss ds (first.spec sread))))
           (definition_item (omega arith) (omega arith) (omega arith) sread dread bread rest))
 
 -- ---- at every depth
 
-module _ (complete : ReadersAreComplete) (named : DeclaratorsDeclareTheirNames) (names : List (List ℕ)) where
+module _ (laws : ExpressionLaws) (named : DeclaratorsDeclareTheirNames) (names : List (List ℕ)) where
   init_needs_depth : {h : ℕ} {ts : Kinds} {i : Init} → InitReads names h ts i → 1 ≤ h
   init_needs_depth (InitReads.by_expression h ts i e he hi ii read) = omega arith
   init_needs_depth (InitReads.by_braces h ts i parts hp ps hi is ii read) = omega arith
@@ -143,7 +143,7 @@ module _ (complete : ReadersAreComplete) (named : DeclaratorsDeclareTheirNames) 
   pub init_takes : (depth : ℕ) (h : ℕ) (ts : Kinds) (i : Init) → h ≤ depth → InitReads names h ts i → Takes (init names depth) (Stops assign_level) h ts i
   unfolding init
   init_takes zero h ts i deep read rest may = let some = init_needs_depth read in absurd (omega arith)
-  init_takes (suc depth) h ts i deep read rest may = init_over_takes names depth (readers names depth) (complete names depth) (init names depth) (init_takes depth) h ts i deep read rest may
+  init_takes (suc depth) h ts i deep read rest may = init_over_takes names (laws.first_tokens names) depth (readers names depth) (laws.complete names depth) (init names depth) (init_takes depth) h ts i deep read rest may
 
   stmt_needs_depth : {closed : Bool} {h : ℕ} {ts : Kinds} {s : Stmt} → StmtReads names closed h ts s → 1 ≤ h
   stmt_needs_depth (StmtReads.block closed h ts s b hb ci hi si read) = omega arith
@@ -160,8 +160,8 @@ module _ (complete : ReadersAreComplete) (named : DeclaratorsDeclareTheirNames) 
   pub stmt_takes : (depth : ℕ) → StmtsTake names depth (stmt names depth)
   unfolding stmt
   stmt_takes zero closed h ts s deep read rest none = let some = stmt_needs_depth read in absurd (omega arith)
-  stmt_takes (suc depth) closed h ts s deep read rest none = stmt_over_takes names depth (readers names depth) (complete names depth) (init names depth) (init_takes depth) (stmt names depth) (stmt_takes depth) closed h ts s deep read rest none
+  stmt_takes (suc depth) closed h ts s deep read rest none = stmt_over_takes names (laws.first_tokens names) depth (readers names depth) (laws.complete names depth) (init names depth) (init_takes depth) (stmt names depth) (stmt_takes depth) closed h ts s deep read rest none
 
   pub item_takes : (depth : ℕ) {h : ℕ} {new : List (List ℕ)} {ts : Kinds} {i : Item} → h ≤ depth → ItemReads names h new ts i → (rest : Kinds) → item names depth (ts ++ rest) ≡ Some ((i, new), rest)
   unfolding item
-  item_takes depth deep read rest = item_over_takes named names depth (readers names depth) (complete names depth) (init names depth) (init_takes depth) (stmt names depth) (stmt_takes depth) deep read rest
+  item_takes depth deep read rest = item_over_takes named names (laws.first_tokens names) depth (readers names depth) (laws.complete names depth) (init names depth) (init_takes depth) (stmt names depth) (stmt_takes depth) deep read rest

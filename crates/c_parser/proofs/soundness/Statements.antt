@@ -16,16 +16,17 @@ use Rattle.c_expr.specs.inner.Readers.{Readers, begins_spec}
 use Rattle.c_expr.specs.Theorems.{ReadsOnly, AreSound}
 use Rattle.c_parser.specs.declared.form.Form.TheVariants as form_as
 use Rattle.c_parser.specs.inner.Readers.{sees_word, form_of, ended, option_to, for_tests, condition, decl, for_init, block_item, block_items_from, block_items, block, if_behind, while_behind, do_behind, for_behind, return_behind, computes, stmt_by, stmt_over}
-use Rattle.c_parser.proofs.ChainLemmas.{tall_answered, answer, tested, eaten, expected, word_eaten, word_expected, same_word_is}
-use Rattle.c_parser.proofs.soundness.Declarations.{Read, AllRead, join, one_more, all_read, option_sound, for_tests_sound, condition_sound, decl_sound, for_init_sound}
+use Rattle.c_parser.proofs.ChainLemmas.{tall_answered, word_eaten, word_expected}
+use Rattle.c_expr.specs.inner.ParserLemmas.{plain_holds, tested, eaten, mark_answer, same_word_is, ReadsPrefix, Found, join, found_more, found_all}
+use Rattle.c_parser.proofs.soundness.Declarations.{option_sound, for_tests_sound, condition_sound, decl_sound, for_init_sound}
 
 -- a statement stands in front of this rest, and where it may take an `else` none is left
 pub record StmtRead (names : List (List ℕ)) (depth : ℕ) (ts : Kinds) (s : Tall Stmt) (rest : Kinds) : Type 0 where
-  pub front : Kinds
-  pub split : ts ≡ front ++ rest
+  pub prefix : Kinds
+  pub split : ts ≡ prefix ++ rest
   pub deep : s.1 ≤ depth
   pub closed : Bool
-  pub read : StmtReads names closed s.1 front s.0
+  pub read : StmtReads names closed s.1 prefix s.0
   pub else_taken : closed ≡ false → sees_word word.Else rest ≡ false
 
 abbrev pub StmtsAreSound : List (List ℕ) → ℕ → Parser (Tall Stmt) → Type 0
@@ -43,27 +44,27 @@ module _ (names : List (List ℕ)) (depth : ℕ) (r : Readers) (sound : AreSound
       unfolding block_item
       block_item_sound ts p h rest is = tested (begins_spec names ts) _ _ _ is
           (λ spec more. tall_answered (decl names r init ts) _ _ more (λ a ha ks read last. let x = decl_sound names depth r sound init init_sound ts a ha ks read in
-          answer (λ p ks. Read depth (λ h ts p. BlockItemReads names h ts p) ts p ks) last (x.0, x.1, x.2, BlockItemReads.declaration _ _ _ a refl x.3)))
+          plain_holds (λ p ks. ReadsPrefix (λ h ts p. BlockItemReads names h ts p) depth ts p.0 p.1 ks) last (x.0, x.1, x.2, BlockItemReads.declaration _ _ _ a refl x.3)))
           (λ none more. tall_answered (inner ts) _ _ more (λ s hs ks read last. let x = inner_sound ts (s, hs) ks read in
-          answer (λ p ks. Read depth (λ h ts p. BlockItemReads names h ts p) ts p ks) last (x.front, x.split, x.deep, BlockItemReads.statement _ _ _ s x.closed refl x.read)))
+          plain_holds (λ p ks. ReadsPrefix (λ h ts p. BlockItemReads names h ts p) depth ts p.0 p.1 ks) last (x.prefix, x.split, x.deep, BlockItemReads.statement _ _ _ s x.closed refl x.read)))
 
       block_items_sound : (n : ℕ) (found : List BlockItem) (height : ℕ) (ts : Kinds) (all : Tall (List BlockItem)) (rest : Kinds) → block_items_from names r init inner n found height ts ≡ Some (all, rest)
-          → AllRead depth (λ h ts ps. BlockItemsRead names h ts ps) found height ts all (Mark mark.RightBrace ∷ rest)
+          → Found (λ h ts ps. BlockItemsRead names h ts ps) depth found height ts all.0 all.1 (Mark mark.RightBrace ∷ rest)
       unfolding block_items_from
       block_items_sound zero found height ts all rest is = absurd (cc)
       block_items_sound (suc n) found height ts all rest is = eaten mark.RightBrace ts _ _ _ is
-          (λ ks ends last. answer (λ all ks. AllRead depth (λ h ts ps. BlockItemsRead names h ts ps) found height ts all (Mark mark.RightBrace ∷ ks)) last
+          (λ ks ends last. plain_holds (λ all ks. Found (λ h ts ps. BlockItemsRead names h ts ps) depth found height ts all.0 all.1 (Mark mark.RightBrace ∷ ks)) last
           ([], 0, [], sym (append-nil found), omega arith, ends, omega arith, BlockItemsRead.no_block_item _ _ _ refl refl refl))
           (λ none more. tall_answered (block_item names r init inner ts) _ _ more (λ p h ks read others. let x = block_item_sound ts p h ks read in
-          one_more found height p h x.0 ks x.1 x.2
+          found_more found height p h x.0 ks x.1 x.2
           (λ ho os others read. BlockItemsRead.more_block_items _ _ _ p others h ho x.0 os refl refl refl x.3 read)
           (block_items_sound n (found ++ p ∷ []) (max height h) ks all rest others)))
 
       pub block_sound : ReadsOnly (block names r init inner) depth (λ h ts b. BlockReads names h ts b)
       unfolding block block_items
-      block_sound ts b h rest is = expected mark.LeftBrace ts _ _ is (λ k1 opens next. tall_answered (block_items_from names r init inner (length k1) [] 0 k1) _ _ next (λ ps hp k2 read last.
-          let x = all_read (block_items_sound (length k1) [] 0 k1 (ps, hp) k2 read) in
-          answer (λ b ks. Read depth (λ h ts b. BlockReads names h ts b) ts b ks) last
+      block_sound ts b h rest is = mark_answer mark.LeftBrace ts _ _ is (λ k1 opens next. tall_answered (block_items_from names r init inner (length k1) [] 0 k1) _ _ next (λ ps hp k2 read last.
+          let x = found_all (block_items_sound (length k1) [] 0 k1 (ps, hp) k2 read) in
+          plain_holds (λ b ks. ReadsPrefix (λ h ts b. BlockReads names h ts b) depth ts b.0 b.1 ks) last
           (Mark mark.LeftBrace ∷ x.0 ++ Mark mark.RightBrace ∷ [], opens ∙ ap (λ k. Mark mark.LeftBrace ∷ k) (x.1 ∙ sym (append_assoc x.0 _ k2)), x.2, BlockReads.braces _ _ _ ps x.0 refl refl x.3)))
 
       -- ---- one form after another
@@ -75,20 +76,20 @@ module _ (names : List (List ℕ)) (depth : ℕ) (r : Readers) (sound : AreSound
           let y = inner_sound k1 (t, ht) k2 tread in
           word_eaten word.Else k2 _ _ _ more
           (λ k3 comes others. tall_answered (inner k3) _ _ others (λ o ho k4 oread last. let z = inner_sound k3 (o, ho) k4 oread in
-          answer (λ s ks. StmtRead names (suc depth) (Word word.If ∷ ts) s ks) last (record {
-            front = Word word.If ∷ wrapped 1 x.0 ++ y.front ++ Word word.Else ∷ z.front;
-            split = ap (λ k. Word word.If ∷ k) (join (wrapped 1 x.0 ++ y.front) (Word word.Else ∷ z.front) _ (join (wrapped 1 x.0) y.front _ x.1 y.split) (comes ∙ ap (λ k. Word word.Else ∷ k) z.split));
+          plain_holds (λ s ks. StmtRead names (suc depth) (Word word.If ∷ ts) s ks) last (record {
+            prefix = Word word.If ∷ wrapped 1 x.0 ++ y.prefix ++ Word word.Else ∷ z.prefix;
+            split = ap (λ k. Word word.If ∷ k) (join (wrapped 1 x.0 ++ y.prefix) (Word word.Else ∷ z.prefix) _ (join (wrapped 1 x.0) y.prefix _ x.1 y.split) (comes ∙ ap (λ k. Word word.Else ∷ k) z.split));
             deep = omega (arith, x.2, y.deep, z.deep);
             closed = z.closed;
-            read = StmtReads.if_else _ _ _ _ c.expr t o hc ht ho x.0 y.front z.front refl refl refl x.3 (subst (λ b. StmtReads names b ht y.front t) (closed_before_else y.closed k2 k3 y.else_taken comes) y.read) z.read;
+            read = StmtReads.if_else _ _ _ _ c.expr t o hc ht ho x.0 y.prefix z.prefix refl refl refl x.3 (subst (λ b. StmtReads names b ht y.prefix t) (closed_before_else y.closed k2 k3 y.else_taken comes) y.read) z.read;
             else_taken = z.else_taken;
           })))
-          (λ none last. answer (λ s ks. StmtRead names (suc depth) (Word word.If ∷ ts) s ks) last (record {
-            front = Word word.If ∷ wrapped 1 x.0 ++ y.front;
-            split = ap (λ k. Word word.If ∷ k) (join (wrapped 1 x.0) y.front _ x.1 y.split);
+          (λ none last. plain_holds (λ s ks. StmtRead names (suc depth) (Word word.If ∷ ts) s ks) last (record {
+            prefix = Word word.If ∷ wrapped 1 x.0 ++ y.prefix;
+            split = ap (λ k. Word word.If ∷ k) (join (wrapped 1 x.0) y.prefix _ x.1 y.split);
             deep = omega (arith, x.2, y.deep);
             closed = false;
-            read = StmtReads.if_alone _ _ _ _ c.expr t y.closed hc ht x.0 y.front refl refl refl refl x.3 y.read;
+            read = StmtReads.if_alone _ _ _ _ c.expr t y.closed hc ht x.0 y.prefix refl refl refl refl x.3 y.read;
             else_taken = λ _. none;
           }))))
 
@@ -97,41 +98,41 @@ module _ (names : List (List ℕ)) (depth : ℕ) (r : Readers) (sound : AreSound
       while_sound ts s rest is = tall_answered (condition names r ts) _ _ is (λ c hc k1 cread next. tall_answered (inner k1) _ _ next (λ b hb k2 bread last.
           let x = condition_sound names depth r sound ts (c, hc) k1 cread in
           let y = inner_sound k1 (b, hb) k2 bread in
-          answer (λ s ks. StmtRead names (suc depth) (Word word.While ∷ ts) s ks) last (record {
-            front = Word word.While ∷ wrapped 1 x.0 ++ y.front;
-            split = ap (λ k. Word word.While ∷ k) (join (wrapped 1 x.0) y.front _ x.1 y.split);
+          plain_holds (λ s ks. StmtRead names (suc depth) (Word word.While ∷ ts) s ks) last (record {
+            prefix = Word word.While ∷ wrapped 1 x.0 ++ y.prefix;
+            split = ap (λ k. Word word.While ∷ k) (join (wrapped 1 x.0) y.prefix _ x.1 y.split);
             deep = omega (arith, x.2, y.deep);
             closed = y.closed;
-            read = StmtReads.while _ _ _ _ c.expr b hc hb x.0 y.front refl refl refl x.3 y.read;
+            read = StmtReads.while _ _ _ _ c.expr b hc hb x.0 y.prefix refl refl refl x.3 y.read;
             else_taken = y.else_taken;
           })))
 
       do_sound : (ts : Kinds) (s : Tall Stmt) (rest : Kinds) → do_behind names r init inner ts ≡ Some (s, rest) → StmtRead names (suc depth) (Word word.Do ∷ ts) s rest
       unfolding do_behind
-      do_sound ts s rest is = tall_answered (inner ts) _ _ is (λ b hb k1 bread next. word_expected word.While k1 _ _ next (λ k2 comes more. tall_answered (condition names r k2) _ _ more (λ c hc k3 cread others. expected mark.Semicolon k3 _ _ others (λ k4 ends last.
+      do_sound ts s rest is = tall_answered (inner ts) _ _ is (λ b hb k1 bread next. word_expected word.While k1 _ _ next (λ k2 comes more. tall_answered (condition names r k2) _ _ more (λ c hc k3 cread others. mark_answer mark.Semicolon k3 _ _ others (λ k4 ends last.
           let y = inner_sound ts (b, hb) k1 bread in
           let x = condition_sound names depth r sound k2 (c, hc) k3 cread in
-          answer (λ s ks. StmtRead names (suc depth) (Word word.Do ∷ ts) s ks) last (record {
-            front = Word word.Do ∷ y.front ++ Word word.While ∷ wrapped 1 x.0 ++ Mark mark.Semicolon ∷ [];
-            split = ap (λ k. Word word.Do ∷ k) (join (y.front ++ Word word.While ∷ wrapped 1 x.0) (Mark mark.Semicolon ∷ []) _ (join y.front (Word word.While ∷ wrapped 1 x.0) _ y.split (comes ∙ ap (λ k. Word word.While ∷ k) x.1)) ends);
+          plain_holds (λ s ks. StmtRead names (suc depth) (Word word.Do ∷ ts) s ks) last (record {
+            prefix = Word word.Do ∷ y.prefix ++ Word word.While ∷ wrapped 1 x.0 ++ Mark mark.Semicolon ∷ [];
+            split = ap (λ k. Word word.Do ∷ k) (join (y.prefix ++ Word word.While ∷ wrapped 1 x.0) (Mark mark.Semicolon ∷ []) _ (join y.prefix (Word word.While ∷ wrapped 1 x.0) _ y.split (comes ∙ ap (λ k. Word word.While ∷ k) x.1)) ends);
             deep = omega (arith, x.2, y.deep);
             closed = true;
-            read = StmtReads.do_while _ _ _ _ b c.expr y.closed hb hc y.front x.0 refl refl refl refl y.read x.3;
+            read = StmtReads.do_while _ _ _ _ b c.expr y.closed hb hc y.prefix x.0 refl refl refl refl y.read x.3;
             else_taken = λ is. cc;
           })))))
 
       for_sound : (ts : Kinds) (s : Tall Stmt) (rest : Kinds) → for_behind names r init inner ts ≡ Some (s, rest) → StmtRead names (suc depth) (Word word.For ∷ ts) s rest
       unfolding for_behind
-      for_sound ts s rest is = expected mark.LeftParenthesis ts _ _ is (λ k1 opens next. tall_answered (for_init names r init k1) _ _ next (λ f hf k2 fread more. tall_answered (for_tests names r k2) _ _ more (λ c hc k3 cread third. tall_answered (inner k3) _ _ third (λ b hb k4 bread last.
+      for_sound ts s rest is = mark_answer mark.LeftParenthesis ts _ _ is (λ k1 opens next. tall_answered (for_init names r init k1) _ _ next (λ f hf k2 fread more. tall_answered (for_tests names r k2) _ _ more (λ c hc k3 cread third. tall_answered (inner k3) _ _ third (λ b hb k4 bread last.
           let w = for_init_sound names depth r sound init init_sound k1 f hf k2 fread in
           let x = for_tests_sound names depth r sound k2 (c, hc) k3 cread in
           let z = inner_sound k3 (b, hb) k4 bread in
-          answer (λ s ks. StmtRead names (suc depth) (Word word.For ∷ ts) s ks) last (record {
-            front = Word word.For ∷ wrapped 1 (w.0 ++ x.0 ++ Mark mark.Semicolon ∷ x.1) ++ z.front;
-            split = ap (λ k. Word word.For ∷ k) (opens ∙ ap (λ k. Mark mark.LeftParenthesis ∷ k) (for_split w.0 x.0 x.1 z.front _ w.1 x.2 z.split));
+          plain_holds (λ s ks. StmtRead names (suc depth) (Word word.For ∷ ts) s ks) last (record {
+            prefix = Word word.For ∷ wrapped 1 (w.0 ++ x.0 ++ Mark mark.Semicolon ∷ x.1) ++ z.prefix;
+            split = ap (λ k. Word word.For ∷ k) (opens ∙ ap (λ k. Mark mark.LeftParenthesis ∷ k) (for_split w.0 x.0 x.1 z.prefix _ w.1 x.2 z.split));
             deep = omega (arith, w.2, x.4, z.deep);
             closed = z.closed;
-            read = StmtReads.for_loop _ _ _ _ f c.0 c.1 b hf x.3.0 x.3.1 hb w.0 x.0 x.1 z.front (omega (arith, x.5)) refl refl w.3 x.6 x.7 z.read;
+            read = StmtReads.for_loop _ _ _ _ f c.0 c.1 b hf x.3.0 x.3.1 hb w.0 x.0 x.1 z.prefix (omega (arith, x.5)) refl refl w.3 x.6 x.7 z.read;
             else_taken = z.else_taken;
           })))))
         where
@@ -143,8 +144,8 @@ module _ (names : List (List ℕ)) (depth : ℕ) (r : Readers) (sound : AreSound
       unfolding return_behind
       return_sound ts s rest is = tall_answered (option_to names r mark.Semicolon ts) _ _ is (λ o h ks read last.
           let x = option_sound names depth r sound mark.Semicolon ts (o, h) ks read in
-          answer (λ s ks. StmtRead names (suc depth) (Word word.Return ∷ ts) s ks) last (record {
-            front = Word word.Return ∷ x.0 ++ Mark mark.Semicolon ∷ [];
+          plain_holds (λ s ks. StmtRead names (suc depth) (Word word.Return ∷ ts) s ks) last (record {
+            prefix = Word word.Return ∷ x.0 ++ Mark mark.Semicolon ∷ [];
             split = ap (λ k. Word word.Return ∷ k) (x.1 ∙ sym (append_assoc x.0 _ ks));
             deep = omega (arith, x.2);
             closed = true;
@@ -156,8 +157,8 @@ module _ (names : List (List ℕ)) (depth : ℕ) (r : Readers) (sound : AreSound
       unfolding computes
       computes_sound ts s rest is = tall_answered (option_to names r mark.Semicolon ts) _ _ is (λ o h ks read last.
           let x = option_sound names depth r sound mark.Semicolon ts (o, h) ks read in
-          answer (λ s ks. StmtRead names (suc depth) ts s ks) last (record {
-            front = x.0 ++ Mark mark.Semicolon ∷ [];
+          plain_holds (λ s ks. StmtRead names (suc depth) ts s ks) last (record {
+            prefix = x.0 ++ Mark mark.Semicolon ∷ [];
             split = x.1 ∙ sym (append_assoc x.0 _ ks);
             deep = omega (arith, x.2);
             closed = true;
@@ -168,8 +169,8 @@ module _ (names : List (List ℕ)) (depth : ℕ) (r : Readers) (sound : AreSound
       block_stmt_sound : (ts : Kinds) (s : Tall Stmt) (rest : Kinds) → stmt_by names r init inner form_as.Block ts ts ≡ Some (s, rest) → StmtRead names (suc depth) ts s rest
       block_stmt_sound ts s rest is = tall_answered (block names r init inner ts) _ _ is (λ b h ks read last.
           let x = block_sound ts b h ks read in
-          answer (λ s ks. StmtRead names (suc depth) ts s ks) last (record {
-            front = x.0;
+          plain_holds (λ s ks. StmtRead names (suc depth) ts s ks) last (record {
+            prefix = x.0;
             split = x.1;
             deep = omega (arith, x.2);
             closed = true;
@@ -181,8 +182,8 @@ module _ (names : List (List ℕ)) (depth : ℕ) (r : Readers) (sound : AreSound
       jump_sound : (w : Keyword) (tree : Stmt) (ts : Kinds) (s : Tall Stmt) (rest : Kinds) → StmtReads names true 1 (Word w ∷ Mark mark.Semicolon ∷ []) tree
           → ended tree ts ≡ Some (s, rest) → StmtRead names (suc depth) (Word w ∷ ts) s rest
       unfolding ended
-      jump_sound w tree ts s rest read is = expected mark.Semicolon ts _ _ is (λ ks ends last. answer (λ s ks. StmtRead names (suc depth) (Word w ∷ ts) s ks) last (record {
-        front = Word w ∷ Mark mark.Semicolon ∷ [];
+      jump_sound w tree ts s rest read is = mark_answer mark.Semicolon ts _ _ is (λ ks ends last. plain_holds (λ s ks. StmtRead names (suc depth) (Word w ∷ ts) s ks) last (record {
+        prefix = Word w ∷ Mark mark.Semicolon ∷ [];
         split = ap (λ k. Word w ∷ k) ends;
         deep = omega arith;
         closed = true;

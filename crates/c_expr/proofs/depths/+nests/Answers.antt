@@ -1,6 +1,5 @@
 use Rattle.std.proofs.Common.{arith}
-use Rattle.c_expr.proofs.Depths.{zero_expr}
-use Rattle.c_expr.proofs.Fields.{expr_some}
+use Rattle.c_expr.proofs.ReadersLemmas.{zero_expr, expr_some}
 use Rattle.c_expr.proofs.depths.+nests.Goals as goal
 
 pub expr-returns-then-depth-eq0-clause-reads : goal.expr-returns-then-depth-eq0-clause-reads

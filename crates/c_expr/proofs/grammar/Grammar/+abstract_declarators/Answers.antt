@@ -1,6 +1,6 @@
 use Rattle.std.proofs.Common.{rules, arith}
 use Rattle.c_expr.specs.inner.Readers as reader
-use Rattle.c_expr.proofs.Fields.{abstract_zero, abstract_some}
+use Rattle.c_expr.proofs.ReadersLemmas.{abstract_zero, abstract_some}
 use Rattle.c_expr.proofs.grammar.Grammar.+abstract_declarators.Goals as goal
 
 pub abstract_declarator-returns-then-self-eq0-clause-reads : goal.abstract_declarator-returns-then-self-eq0-clause-reads

@@ -13,7 +13,8 @@ use Rattle.c_tree.specs.Grammar.{IsFree, star_kinds, DeclaratorReads, Declarator
 use Rattle.c_expr.specs.inner.Parser.{same_mark}
 use Rattle.c_expr.specs.inner.Readers.{begins_spec, looks_named}
 use Rattle.c_expr.specs.Theorems.{Lacks}
-use Rattle.c_expr.proofs.FirstTokensLemmas.{Begins, Begins-append, Begins-same}
+use Rattle.c_expr.specs.FirstTokens.{Begins, CanBeginDeclarator}
+use Rattle.c_expr.specs.inner.FirstTokensLemmas.{Begins-append, Begins-same, OpensNothing}
 use Rattle.c_expr.proofs.completeness.NamesToldApart.{core, IsFreeName, NotFree}
 use Rattle.c_expr.proofs.TypeNames.{contains_type_name, free_is_no_type_name}
 
@@ -24,14 +25,6 @@ CanBeginDirect names (Name x) = IsFree names x
 CanBeginDirect names (Number n) = ⊥
 CanBeginDirect names (Text bytes) = ⊥
 CanBeginDirect names (Mark m) = m ≡ mark.LeftParenthesis
-
--- one of those, or `*`
-abbrev pub CanBeginDeclarator : List (List ℕ) → Kind → Type 0
-CanBeginDeclarator names (Word w) = ⊥
-CanBeginDeclarator names (Name x) = IsFree names x
-CanBeginDeclarator names (Number n) = ⊥
-CanBeginDeclarator names (Text bytes) = ⊥
-CanBeginDeclarator names (Mark m) = (m ≡ mark.LeftParenthesis) ⊎ (m ≡ mark.Star)
 
 direct_is_declarator : (names : List (List ℕ)) (ts : Kinds) → Begins (CanBeginDirect names) ts → Begins (CanBeginDeclarator names) ts
 direct_is_declarator names [] b = b
@@ -69,7 +62,7 @@ pub DeclaratorReads-begins : {names : List (List ℕ)} {h : ℕ} {x : List ℕ} 
 DeclaratorReads-begins {names} (DeclaratorReads.plain h x ts d pairs hi few free is di) = Begins-same _ is (direct_is_declarator names _ (name_begins names pairs x free))
 DeclaratorReads-begins {names} (DeclaratorReads.formed h x ts d pairs hf inner hi few is formed) = Begins-same _ is (wrapped_begins names pairs inner (DeclaratorForm-begins formed))
 
--- ---- what the tests say of a declarator's front
+-- ---- what the tests say of what a declarator begins with
 
 pub declarator_some : (names : List (List ℕ)) (ts : Kinds) → Begins (CanBeginDeclarator names) ts → 0 < length ts
 declarator_some names [] b = absurd b
@@ -83,28 +76,9 @@ declarator_no_spec names (Number n ∷ ks) b = refl
 declarator_no_spec names (Text bytes ∷ ks) b = refl
 declarator_no_spec names (Mark m ∷ ks) b = refl
 
--- none of `(`, `*` and `[`
-pub record OpensNothing (m : MarkName) : Type 0 where
-  pub parenthesis : same_mark mark.LeftParenthesis m ≡ false
-  pub star : same_mark mark.Star m ≡ false
-  pub bracket : same_mark mark.LeftBracket m ≡ false
-
-pub brace_opens_nothing : OpensNothing mark.LeftBrace
-unfolding same_mark
-brace_opens_nothing = record { parenthesis = refl; star = refl; bracket = refl }
-
 pub closing_opens_nothing : OpensNothing mark.RightParenthesis
 unfolding same_mark
 closing_opens_nothing = record { parenthesis = refl; star = refl; bracket = refl }
-
-pub declarator_lacks : (names : List (List ℕ)) (m : MarkName) (ts : Kinds) → OpensNothing m → Begins (CanBeginDeclarator names) ts → Lacks m ts
-declarator_lacks names m [] o b = refl
-declarator_lacks names m (Word w ∷ ks) o b = refl
-declarator_lacks names m (Name x ∷ ks) o b = refl
-declarator_lacks names m (Number n ∷ ks) o b = refl
-declarator_lacks names m (Text bytes ∷ ks) o b = refl
-declarator_lacks names m (Mark n ∷ ks) o (inl is) = rw is o.parenthesis
-declarator_lacks names m (Mark n ∷ ks) o (inr is) = rw is o.star
 
 pub direct_no_star : (names : List (List ℕ)) (ts : Kinds) → Begins (CanBeginDirect names) ts → Lacks mark.Star ts
 unfolding same_mark

@@ -16,22 +16,13 @@ use Rattle.c_tree.specs.Grammar.{IsFree, DeclaratorReads}
 use Rattle.c_tree.specs.Statements.{InitReads, InitsRead, OptionReads, StmtReads, BlockReads}
 use Rattle.c_expr.specs.inner.Parser.{same_mark, same_word}
 use Rattle.c_expr.specs.inner.Readers.{begins_spec, continuation_of}
-use Rattle.c_expr.specs.Theorems.{Lacks, LacksSuffix, Stops}
-use Rattle.c_expr.proofs.FirstTokensLemmas.{Begins, Begins-append, Begins-same, mark_begins_expression, word_begins_spec, CanBeginExpression, CanBeginSpec, ExprReads-begins}
-use Rattle.c_expr.proofs.TypeNames.{contains_type_name, free_is_no_type_name}
-use Rattle.c_expr.proofs.Steps.{same_mark_true, same_word_true}
-use Rattle.c_expr.proofs.completeness.FirstTokens.{DeclaratorReads-begins, OpensNothing, brace_opens_nothing, declarator_lacks}
+use Rattle.c_expr.specs.Theorems.{Lacks, LacksSuffix, Stops, FirstTokens}
+use Rattle.c_expr.specs.FirstTokens.{Begins, mark_begins_expression, word_begins_spec, CanBeginExpression, CanBeginSpec}
+use Rattle.c_expr.specs.inner.FirstTokensLemmas.{Begins-append, Begins-same, OpensNothing, brace_opens_nothing, declarator_lacks, expression_lacks, other_mark, stops_at}
+use Rattle.c_expr.specs.inner.ParserLemmas.{same_mark_true, same_word_true}
 use Rattle.c_parser.specs.inner.Readers.{sees_word}
 
--- ---- tests of marks and words
-
-other_mark_by : (P : MarkName → Bool) (m n : MarkName) (b : Bool) → same_mark n m ≡ b → P m ≡ false → P n ≡ true → b ≡ false
-other_mark_by P m n true is no_m yes_n = let same : n ≡ m = same_mark_true n m is in let e = ap P same in cc
-other_mark_by P m n false is no_m yes_n = refl
-
--- a test tells the marks apart
-other_mark : (P : MarkName → Bool) (m n : MarkName) → P m ≡ false → P n ≡ true → same_mark n m ≡ false
-other_mark P m n no_m yes_n = other_mark_by P m n (same_mark n m) refl no_m yes_n
+-- ---- words
 
 other_word_by : (P : Keyword → Bool) (w v : Keyword) (b : Bool) → same_word v w ≡ b → P w ≡ false → P v ≡ true → b ≡ false
 other_word_by P w v true is no_w yes_v = let same : v ≡ w = same_word_true v w is in let e = ap P same in cc
@@ -40,41 +31,7 @@ other_word_by P w v false is no_w yes_v = refl
 other_word : (P : Keyword → Bool) (w v : Keyword) → P w ≡ false → P v ≡ true → same_word v w ≡ false
 other_word P w v no_w yes_v = other_word_by P w v (same_word v w) refl no_w yes_v
 
--- ---- expressions
-
-pub expression_no_spec : (names : List (List ℕ)) (ts : Kinds) → Begins (CanBeginExpression names) ts → begins_spec names ts ≡ false
-expression_no_spec names [] b = refl
-expression_no_spec names (Word w ∷ ks) b = rw b
-expression_no_spec names (Name x ∷ ks) b = free_is_no_type_name names x b
-expression_no_spec names (Number n ∷ ks) b = refl
-expression_no_spec names (Text bytes ∷ ks) b = refl
-expression_no_spec names (Mark m ∷ ks) b = refl
-
-pub expression_lacks : (names : List (List ℕ)) (m : MarkName) (ts : Kinds) → mark_begins_expression m ≡ false → Begins (CanBeginExpression names) ts → Lacks m ts
-expression_lacks names m [] none b = refl
-expression_lacks names m (Word w ∷ ks) none b = refl
-expression_lacks names m (Name x ∷ ks) none b = refl
-expression_lacks names m (Number n ∷ ks) none b = refl
-expression_lacks names m (Text bytes ∷ ks) none b = refl
-expression_lacks names m (Mark n ∷ ks) none b = other_mark mark_begins_expression m n none b
-
--- a mark that no expression goes on with
-pub stops : (m : MarkName) → continuation_of m ≡ None → (ks : Kinds) → Stops 0 (Mark m ∷ ks)
-stops m none ks c is = absurd (cc)
-
 -- ---- specs
-
-pub spec_begins : (names : List (List ℕ)) (ts : Kinds) → Begins (CanBeginSpec names) ts → begins_spec names ts ≡ true
-spec_begins names [] b = absurd b
-spec_begins names (Word word.Int ∷ ks) b = refl
-spec_begins names (Word word.Char ∷ ks) b = refl
-spec_begins names (Word word.Void ∷ ks) b = refl
-spec_begins names (Word word.Struct ∷ ks) b = refl
-spec_begins names (Word w ∷ ks) b = cc
-spec_begins names (Name x ∷ ks) b = contains_type_name names x b
-spec_begins names (Number n ∷ ks) b = absurd b
-spec_begins names (Text bytes ∷ ks) b = absurd b
-spec_begins names (Mark m ∷ ks) b = absurd b
 
 pub spec_no_word : (names : List (List ℕ)) (w : Keyword) (ts : Kinds) → word_begins_spec w ≡ false → Begins (CanBeginSpec names) ts → sees_word w ts ≡ false
 spec_no_word names w [] none b = refl
@@ -83,14 +40,6 @@ spec_no_word names w (Name x ∷ ks) none b = refl
 spec_no_word names w (Number n ∷ ks) none b = refl
 spec_no_word names w (Text bytes ∷ ks) none b = refl
 spec_no_word names w (Mark m ∷ ks) none b = refl
-
-pub spec_lacks : (names : List (List ℕ)) (m : MarkName) (ts : Kinds) → Begins (CanBeginSpec names) ts → Lacks m ts
-spec_lacks names m [] b = refl
-spec_lacks names m (Word v ∷ ks) b = refl
-spec_lacks names m (Name x ∷ ks) b = refl
-spec_lacks names m (Number n ∷ ks) b = refl
-spec_lacks names m (Text bytes ∷ ks) b = refl
-spec_lacks names m (Mark n ∷ ks) b = absurd b
 
 pub begins_some : (P : Kind → Type 0) (ts : Kinds) → Begins P ts → 0 < length ts
 begins_some P [] b = absurd b
@@ -102,12 +51,16 @@ semicolon_opens_nothing : OpensNothing mark.Semicolon
 unfolding same_mark
 semicolon_opens_nothing = record { parenthesis = refl; star = refl; bracket = refl }
 
--- what follows a spec is a declarator
-pub declarator_no_brace : {names : List (List ℕ)} {h : ℕ} {x : List ℕ} {ds : Kinds} {d : Declarator} (rest : Kinds) → DeclaratorReads names h x ds d → Lacks mark.LeftBrace (ds ++ rest)
-declarator_no_brace {names} {ds = ds} rest read = declarator_lacks names mark.LeftBrace (ds ++ rest) brace_opens_nothing (Begins-append _ ds rest (DeclaratorReads-begins read))
+module _ {names : List (List ℕ)} (first : FirstTokens names) where
+  declarator_without : {h : ℕ} {x : List ℕ} {ds : Kinds} {d : Declarator} (m : MarkName) → OpensNothing m → (rest : Kinds) → DeclaratorReads names h x ds d → Lacks m (ds ++ rest)
+  declarator_without {ds = ds} m opens rest read = declarator_lacks names m (ds ++ rest) opens (Begins-append _ ds rest (first.declarator read))
 
-pub declarator_no_semicolon : {names : List (List ℕ)} {h : ℕ} {x : List ℕ} {ds : Kinds} {d : Declarator} (rest : Kinds) → DeclaratorReads names h x ds d → Lacks mark.Semicolon (ds ++ rest)
-declarator_no_semicolon {names} {ds = ds} rest read = declarator_lacks names mark.Semicolon (ds ++ rest) semicolon_opens_nothing (Begins-append _ ds rest (DeclaratorReads-begins read))
+  -- what follows a spec is a declarator
+  pub declarator_no_brace : {h : ℕ} {x : List ℕ} {ds : Kinds} {d : Declarator} (rest : Kinds) → DeclaratorReads names h x ds d → Lacks mark.LeftBrace (ds ++ rest)
+  declarator_no_brace rest read = declarator_without mark.LeftBrace brace_opens_nothing rest read
+
+  pub declarator_no_semicolon : {h : ℕ} {x : List ℕ} {ds : Kinds} {d : Declarator} (rest : Kinds) → DeclaratorReads names h x ds d → Lacks mark.Semicolon (ds ++ rest)
+  declarator_no_semicolon rest read = declarator_without mark.Semicolon semicolon_opens_nothing rest read
 
 -- a mark that may stand behind a declarator in a declaration
 abbrev pub follows_declarator : MarkName → Bool
@@ -160,7 +113,7 @@ end_continues mark.Semicolon b = refl
 end_continues m b = cc
 
 pub ends_stops : (ts : Kinds) → Ends ts → Stops 0 ts
-ends_stops ts e = subst (λ ks. Stops 0 ks) (sym e.2) (stops e.0 (end_continues e.0 e.3) e.1)
+ends_stops ts e = subst (λ ks. Stops 0 ks) (sym e.2) (stops_at 0 e.0 e.1 (end_continues e.0 e.3))
 
 pub ends_no_assign : (ts : Kinds) → Ends ts → Lacks mark.Assign ts
 ends_no_assign ts e = rw e.2 (other_mark ends_init mark.Assign e.0 refl e.3)
@@ -182,14 +135,15 @@ pub begins_either : (P Q : Kind → Type 0) (ts : Kinds) → ((k : Kind) → P k
 begins_either P Q [] f b = b
 begins_either P Q (k ∷ ks) f b = f k b
 
-pub InitReads-begins : {names : List (List ℕ)} {h : ℕ} {ts : Kinds} {i : Init} → InitReads names h ts i → Begins (CanBeginInit names) ts
-InitReads-begins {names} (InitReads.by_expression h ts i e he hi ii read) = begins_either (CanBeginExpression names) (CanBeginInit names) ts (λ k b. inl b) (ExprReads-begins read)
-InitReads-begins {names} (InitReads.by_braces h ts i parts hp ps hi is ii read) = Begins-same (CanBeginInit names) is (inr refl)
+module _ {names : List (List ℕ)} (first : FirstTokens names) where
+  pub InitReads-begins : {h : ℕ} {ts : Kinds} {i : Init} → InitReads names h ts i → Begins (CanBeginInit names) ts
+  InitReads-begins (InitReads.by_expression h ts i e he hi ii read) = begins_either (CanBeginExpression names) (CanBeginInit names) ts (λ k b. inl b) (first.expression read)
+  InitReads-begins (InitReads.by_braces h ts i parts hp ps hi is ii read) = Begins-same (CanBeginInit names) is (inr refl)
 
-pub InitsRead-begins : {names : List (List ℕ)} {h : ℕ} {ts : Kinds} {is : List Init} → InitsRead names h ts is → Begins (CanBeginInit names) ts
-InitsRead-begins {names} (InitsRead.last_init h ts is i ii read) = InitReads-begins read
-InitsRead-begins {names} (InitsRead.last_with_comma h ts is i its si ii read) = Begins-same _ si (Begins-append _ its _ (InitReads-begins read))
-InitsRead-begins {names} (InitsRead.more_inits h ts is i others hi ho its os hh si ii read more) = Begins-same _ si (Begins-append _ its _ (InitReads-begins read))
+  pub InitsRead-begins : {h : ℕ} {ts : Kinds} {is : List Init} → InitsRead names h ts is → Begins (CanBeginInit names) ts
+  InitsRead-begins (InitsRead.last_init h ts is i ii read) = InitReads-begins read
+  InitsRead-begins (InitsRead.last_with_comma h ts is i its si ii read) = Begins-same _ si (Begins-append _ its _ (InitReads-begins read))
+  InitsRead-begins (InitsRead.more_inits h ts is i others hi ho its os hh si ii read more) = Begins-same _ si (Begins-append _ its _ (InitReads-begins read))
 
 pub init_no_brace : (names : List (List ℕ)) (ts : Kinds) → Begins (CanBeginInit names) ts → Lacks mark.RightBrace ts
 unfolding same_mark
@@ -234,36 +188,37 @@ expression_is_statement names (Number n) b = b
 expression_is_statement names (Text bytes) b = b
 expression_is_statement names (Mark m) b = mark_expression_statement m b
 
-option_begins : {names : List (List ℕ)} {h : ℕ} {os : Kinds} {o : Option FullExpr} → OptionReads names h os o → Begins (CanBeginStatement names) (os ++ Mark mark.Semicolon ∷ [])
-option_begins {names} (OptionReads.nothing h os o hi is oi) = Begins-same (CanBeginStatement names) {us = Mark mark.Semicolon ∷ []} (rw is refl) refl
-option_begins {names} {os = os} (OptionReads.some h ts o e oi read) = Begins-append (CanBeginStatement names) os _ (begins_either _ (CanBeginStatement names) os (expression_is_statement names) (ExprReads-begins read))
+module _ {names : List (List ℕ)} (first : FirstTokens names) where
+  option_begins : {h : ℕ} {os : Kinds} {o : Option FullExpr} → OptionReads names h os o → Begins (CanBeginStatement names) (os ++ Mark mark.Semicolon ∷ [])
+  option_begins (OptionReads.nothing h os o hi is oi) = Begins-same (CanBeginStatement names) {us = Mark mark.Semicolon ∷ []} (rw is refl) refl
+  option_begins {os = os} (OptionReads.some h ts o e oi read) = Begins-append (CanBeginStatement names) os _ (begins_either _ (CanBeginStatement names) os (expression_is_statement names) (first.expression read))
 
-block_begins : {names : List (List ℕ)} {h : ℕ} {ts : Kinds} {b : Block} → BlockReads names h ts b → Begins (CanBeginStatement names) ts
-block_begins {names} (BlockReads.braces h ts b items ps is bi read) = Begins-same (CanBeginStatement names) is refl
+  block_begins : {h : ℕ} {ts : Kinds} {b : Block} → BlockReads names h ts b → Begins (CanBeginStatement names) ts
+  block_begins (BlockReads.braces h ts b items ps is bi read) = Begins-same (CanBeginStatement names) is refl
 
-pub StmtReads-begins : {names : List (List ℕ)} {closed : Bool} {h : ℕ} {ts : Kinds} {s : Stmt} → StmtReads names closed h ts s → Begins (CanBeginStatement names) ts
-StmtReads-begins {names} (StmtReads.block closed h ts s b hb ci hi si read) = block_begins read
-StmtReads-begins {names} (StmtReads.if_alone closed h ts s c then then_closed hc ht cs tts ci hi is si test body) = Begins-same (CanBeginStatement names) is refl
-StmtReads-begins {names} (StmtReads.if_else closed h ts s c then otherwise hc ht ho cs tts os hi is si test body other) = Begins-same (CanBeginStatement names) is refl
-StmtReads-begins {names} (StmtReads.while closed h ts s c body hc hb cs bs hi is si test read) = Begins-same (CanBeginStatement names) is refl
-StmtReads-begins {names} (StmtReads.do_while closed h ts s body c body_closed hb hc bs cs ci hi is si read test) = Begins-same (CanBeginStatement names) is refl
-StmtReads-begins {names} (StmtReads.for_loop closed h ts s f c step body hf hc hs hb fs cs ss bs hi is si first test more read) = Begins-same (CanBeginStatement names) is refl
-StmtReads-begins {names} (StmtReads.break closed h ts s ci hi is si) = Begins-same (CanBeginStatement names) is refl
-StmtReads-begins {names} (StmtReads.continue closed h ts s ci hi is si) = Begins-same (CanBeginStatement names) is refl
-StmtReads-begins {names} (StmtReads.return closed h ts s o ho os ci hi is si read) = Begins-same (CanBeginStatement names) is refl
-StmtReads-begins {names} (StmtReads.computes closed h ts s o ho os ci hi is si read) = Begins-same (CanBeginStatement names) is (option_begins read)
+  pub StmtReads-begins : {closed : Bool} {h : ℕ} {ts : Kinds} {s : Stmt} → StmtReads names closed h ts s → Begins (CanBeginStatement names) ts
+  StmtReads-begins (StmtReads.block closed h ts s b hb ci hi si read) = block_begins read
+  StmtReads-begins (StmtReads.if_alone closed h ts s c then then_closed hc ht cs tts ci hi is si test body) = Begins-same (CanBeginStatement names) is refl
+  StmtReads-begins (StmtReads.if_else closed h ts s c then otherwise hc ht ho cs tts os hi is si test body other) = Begins-same (CanBeginStatement names) is refl
+  StmtReads-begins (StmtReads.while closed h ts s c body hc hb cs bs hi is si test read) = Begins-same (CanBeginStatement names) is refl
+  StmtReads-begins (StmtReads.do_while closed h ts s body c body_closed hb hc bs cs ci hi is si read test) = Begins-same (CanBeginStatement names) is refl
+  StmtReads-begins (StmtReads.for_loop closed h ts s f c step body hf hc hs hb fs cs ss bs hi is si first test more read) = Begins-same (CanBeginStatement names) is refl
+  StmtReads-begins (StmtReads.break closed h ts s ci hi is si) = Begins-same (CanBeginStatement names) is refl
+  StmtReads-begins (StmtReads.continue closed h ts s ci hi is si) = Begins-same (CanBeginStatement names) is refl
+  StmtReads-begins (StmtReads.return closed h ts s o ho os ci hi is si read) = Begins-same (CanBeginStatement names) is refl
+  StmtReads-begins (StmtReads.computes closed h ts s o ho os ci hi is si read) = Begins-same (CanBeginStatement names) is (option_begins read)
 
-pub statement_no_spec : (names : List (List ℕ)) (ts : Kinds) → Begins (CanBeginStatement names) ts → begins_spec names ts ≡ false
-statement_no_spec names [] b = refl
-statement_no_spec names (Word word.Int ∷ ks) b = cc
-statement_no_spec names (Word word.Char ∷ ks) b = cc
-statement_no_spec names (Word word.Void ∷ ks) b = cc
-statement_no_spec names (Word word.Struct ∷ ks) b = cc
-statement_no_spec names (Word w ∷ ks) b = refl
-statement_no_spec names (Name x ∷ ks) b = free_is_no_type_name names x b
-statement_no_spec names (Number n ∷ ks) b = refl
-statement_no_spec names (Text bytes ∷ ks) b = refl
-statement_no_spec names (Mark m ∷ ks) b = refl
+  pub statement_no_spec : (ts : Kinds) → Begins (CanBeginStatement names) ts → begins_spec names ts ≡ false
+  statement_no_spec [] b = refl
+  statement_no_spec (Word word.Int ∷ ks) b = cc
+  statement_no_spec (Word word.Char ∷ ks) b = cc
+  statement_no_spec (Word word.Void ∷ ks) b = cc
+  statement_no_spec (Word word.Struct ∷ ks) b = cc
+  statement_no_spec (Word w ∷ ks) b = refl
+  statement_no_spec (Name x ∷ ks) b = first.no_spec_seen (Name x ∷ ks) b
+  statement_no_spec (Number n ∷ ks) b = refl
+  statement_no_spec (Text bytes ∷ ks) b = refl
+  statement_no_spec (Mark m ∷ ks) b = refl
 
 -- a closing brace comes, or an item of a block
 abbrev pub CanFollowBlockItem : List (List ℕ) → Kind → Type 0

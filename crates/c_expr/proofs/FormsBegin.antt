@@ -1,12 +1,9 @@
--- What a token list of each form begins with, and that none is empty where the form isn't.
+-- What each form begins with, that none of them is empty, and what the test for specs says of them.
 use Rattle.std.proofs.Common.{◌≡◌, ◌≢◌, ℕ, zero, suc, Bool, true, false, IsTrue, List, [], ◌∷◌, ◌++◌, refl, sym, subst}
-use Rattle.std.specs.List.{Contains}
 use Rattle.std.proofs.lemmas.Bool.{false≢true}
-use Rattle.c_tokens.specs.declared.token.Keyword.{Keyword}
 use Rattle.c_tokens.specs.declared.token.Keyword.TheVariants as word
 use Rattle.c_tokens.specs.declared.token.Kind.{Kind}
 use Rattle.c_tokens.specs.declared.token.Kind.TheVariants.{Word, Name, Number, Text, Mark}
-use Rattle.c_tokens.specs.declared.token.Mark.{Mark as MarkName}
 use Rattle.c_tokens.specs.declared.token.Mark.TheVariants as mark
 use Rattle.c_tree.specs.declared.expression.Expr.{Expr}
 use Rattle.c_tree.specs.declared.expression.Spec.{Spec}
@@ -14,51 +11,11 @@ use Rattle.c_tree.specs.declared.expression.TypeWord.{TypeWord}
 use Rattle.c_tree.specs.declared.operator.UnaryOperator.{UnaryOperator}
 use Rattle.c_tree.specs.declared.operator.UnaryOperator.TheVariants as unary
 use Rattle.c_tree.specs.Marks.{Kinds, wrapped, unary_mark}
-use Rattle.c_tree.specs.Grammar.{IsFree, SpecReads, TypeWordReads, ExprReads, ExprForm}
-
-abbrev pub mark_begins_expression : MarkName → Bool
-mark_begins_expression mark.LeftParenthesis = true
-mark_begins_expression mark.Increment = true
-mark_begins_expression mark.Decrement = true
-mark_begins_expression mark.Ampersand = true
-mark_begins_expression mark.Star = true
-mark_begins_expression mark.Minus = true
-mark_begins_expression mark.Tilde = true
-mark_begins_expression mark.Exclamation = true
-mark_begins_expression _ = false
-
-abbrev pub word_begins_spec : Keyword → Bool
-word_begins_spec word.Int = true
-word_begins_spec word.Char = true
-word_begins_spec word.Void = true
-word_begins_spec word.Struct = true
-word_begins_spec _ = false
-
-abbrev pub CanBeginExpression : List (List ℕ) → Kind → Type 0
-CanBeginExpression names (Word w) = w ≡ word.Sizeof
-CanBeginExpression names (Name x) = IsFree names x
-CanBeginExpression names (Number n) = Unit {0}
-CanBeginExpression names (Text bytes) = Unit {0}
-CanBeginExpression names (Mark m) = IsTrue (mark_begins_expression m)
-
-abbrev pub CanBeginSpec : List (List ℕ) → Kind → Type 0
-CanBeginSpec names (Word w) = IsTrue (word_begins_spec w)
-CanBeginSpec names (Name x) = Contains names x
-CanBeginSpec names (Number n) = ⊥
-CanBeginSpec names (Text bytes) = ⊥
-CanBeginSpec names (Mark m) = ⊥
-
--- the tokens begin with one for which this holds
-abbrev pub Begins : (Kind → Type 0) → Kinds → Type 0
-Begins P [] = ⊥
-Begins P (k ∷ ks) = P k
-
-pub Begins-append : (P : Kind → Type 0) (ts rest : Kinds) → Begins P ts → Begins P (ts ++ rest)
-Begins-append P [] rest h = absurd h
-Begins-append P (k ∷ ks) rest h = h
-
-pub Begins-same : (P : Kind → Type 0) {ts us : Kinds} → ts ≡ us → Begins P us → Begins P ts
-Begins-same P is h = subst (λ ks. Begins P ks) (sym is) h
+use Rattle.c_tree.specs.Grammar.{SpecReads, TypeWordReads, ExprReads, ExprForm}
+use Rattle.c_expr.specs.FirstTokens.{Begins, mark_begins_expression, word_begins_spec, CanBeginExpression, CanBeginSpec}
+use Rattle.c_expr.specs.inner.FirstTokensLemmas.{Begins-append, Begins-same}
+use Rattle.c_expr.specs.inner.Readers.{begins_spec, kind_begins_spec}
+use Rattle.c_expr.proofs.TypeNames.{free_is_no_type_name, contains_type_name}
 
 pub Begins-some : (P : Kind → Type 0) (ts : Kinds) → Begins P ts → ts ≢ []
 Begins-some P ts h is = subst (λ ks. Begins P ks) is h
@@ -136,3 +93,32 @@ SpecReads-some r = Begins-some _ _ (SpecReads-begins r)
 
 pub TypeWordReads-some : {names : List (List ℕ)} {h : ℕ} {ts : Kinds} {t : TypeWord} → TypeWordReads names h ts t → ts ≢ []
 TypeWordReads-some r = Begins-some _ _ (TypeWordReads-begins r)
+
+-- ---- the test for specs
+
+no_spec_kind : (names : List (List ℕ)) (k : Kind) → CanBeginExpression names k → kind_begins_spec names k ≡ false
+no_spec_kind names (Word w) is = rw is
+no_spec_kind names (Name x) free = free_is_no_type_name names x free
+no_spec_kind names (Number m) is = refl
+no_spec_kind names (Text bytes) is = refl
+no_spec_kind names (Mark m) is = refl
+
+-- what begins an expression begins no spec
+pub no_spec : (names : List (List ℕ)) (ts : Kinds) → Begins (CanBeginExpression names) ts → begins_spec names ts ≡ false
+no_spec names [] b = refl
+no_spec names (k ∷ ks) b = no_spec_kind names k b
+
+spec_kind : (names : List (List ℕ)) (k : Kind) → CanBeginSpec names k → kind_begins_spec names k ≡ true
+spec_kind names (Word word.Int) is = refl
+spec_kind names (Word word.Char) is = refl
+spec_kind names (Word word.Void) is = refl
+spec_kind names (Word word.Struct) is = refl
+spec_kind names (Word _) is = cc
+spec_kind names (Name x) is = contains_type_name names x is
+spec_kind names (Number m) is = absurd is
+spec_kind names (Text bytes) is = absurd is
+spec_kind names (Mark m) is = absurd is
+
+pub some_spec : (names : List (List ℕ)) (ts : Kinds) → Begins (CanBeginSpec names) ts → begins_spec names ts ≡ true
+some_spec names [] b = absurd b
+some_spec names (k ∷ ks) b = spec_kind names k b

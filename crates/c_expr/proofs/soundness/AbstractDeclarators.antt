@@ -1,4 +1,4 @@
--- What the readers of suffixes, abstract declarators, declarators, specs and type words answer is of the grammar, if that is so below.
+-- What the readers of suffixes and of abstract declarators answer is of the grammar, if that is so below.
 use Rattle.std.proofs.Common.{◌≡◌, ◌≢◌, ℕ, zero, suc, ◌+◌, ◌<◌, ◌≤◌, ◌⊎◌, inl, inr, max, true, false, nat_le, List, [], ◌∷◌, ◌++◌, Some, refl, sym, ap, subst, ◌∙◌, arith, length, append_assoc}
 use Rattle.std.proofs.Math.Nat.{max-zero}
 use Rattle.std.proofs.lemmas.List.{append-nil}
@@ -12,7 +12,8 @@ use Rattle.c_tree.specs.Grammar.{star_kinds, SuffixesRead, SuffixReads, Abstract
 use Rattle.c_expr.specs.inner.Parser.{same_mark, sees, behind, run}
 use Rattle.c_expr.specs.inner.Readers.{Readers, bound, suffix, opens_suffix, suffixes_from, suffixes, opens_abstract, nested_abstract, abstract_behind, starred, is_none, bracketed_abstract, abstract}
 use Rattle.c_expr.specs.Theorems.{ReadsOnly, AreSound}
-use Rattle.c_expr.proofs.soundness.Chains.{both_true, both_answer, tree_answer, mark_answer, tested, tested_at, eaten, run_some, pure_answer, pure_holds, Reads, join, push, run_split, max_low, zero_low, above_low, Found, found_all}
+use Rattle.c_expr.proofs.soundness.Chains.{both_true, tree_answer, run_some, pure_answer, pure_holds, push, run_split, max_low, zero_low, above_low}
+use Rattle.c_expr.specs.inner.ParserLemmas.{both_answer, mark_answer, tested, tested_at, eaten, ReadsPrefix, join, Found, found_all}
 
 -- ---- suffixes
 
@@ -44,22 +45,22 @@ module _ (names : List (List ℕ)) (n : ℕ) (inner : Readers) (below : AreSound
   suffixes_from_found zero found h ts all H rest is =
       pure_holds (λ all H rest. Found (SuffixesRead names) n found h ts all H rest) is ([], 0, [], sym (append-nil found), sym (max-zero h), refl, zero_low n, SuffixesRead.no_suffix _ _ _ refl refl refl)
   suffixes_from_found (suc k) found h ts all H rest is = tested (opens_suffix names inner ts) _ _ _ is
-      (λ opens go. tree_answer (suffix names inner) suffix_reads ts _ _ go (λ s hs ks front split low here more.
+      (λ opens go. tree_answer (suffix names inner) suffix_reads ts _ _ go (λ s hs ks prefix split low here more.
       let o = suffixes_from_found k (found ++ s ∷ []) (max h hs) ks all H rest more in (
         s ∷ o.0,
         max hs o.1,
-        front ++ o.2,
+        prefix ++ o.2,
         o.3 ∙ append_assoc found (s ∷ []) o.0,
         omega (arith, o.4),
-        join front o.2 rest split o.5,
+        join prefix o.2 rest split o.5,
         max_low _ _ _ low o.6,
-        SuffixesRead.more_suffixes _ _ _ s o.0 hs o.1 front o.2 refl refl refl here o.7,
+        SuffixesRead.more_suffixes _ _ _ s o.0 hs o.1 prefix o.2 refl refl refl here o.7,
       )))
       (λ none last. pure_holds (λ all H rest. Found (SuffixesRead names) n found h ts all H rest) last ([], 0, [], sym (append-nil found), sym (max-zero h), refl, zero_low n, SuffixesRead.no_suffix _ _ _ refl refl refl))
 
   pub suffixes_read : ReadsOnly (suffixes names inner) n (SuffixesRead names)
   unfolding suffixes
-  suffixes_read ts all H rest is = found_all _ n ts all H rest (suffixes_from_found (length ts) [] 0 ts all H rest is)
+  suffixes_read ts all H rest is = found_all (suffixes_from_found (length ts) [] 0 ts all H rest is)
 
 -- ---- abstract declarators
 
@@ -104,24 +105,24 @@ no_part (s ∷ ss) is = cc
 
 -- what is read behind so many stars
 abbrev StarredReads : List (List ℕ) → ℕ → ℕ → Kinds → AbstractDeclarator → ℕ → Kinds → Type 0
-StarredReads names n stars ts a h rest = (front : Kinds) × (hf : ℕ) × (ts ≡ front ++ rest) × (h ≡ 1 + hf) × (hf ≤ n) × AbstractForm names hf stars (star_kinds stars ++ front) a
+StarredReads names n stars ts a h rest = (prefix : Kinds) × (hf : ℕ) × (ts ≡ prefix ++ rest) × (h ≡ 1 + hf) × (hf ≤ n) × AbstractForm names hf stars (star_kinds stars ++ prefix) a
 
 module _ (names : List (List ℕ)) (n : ℕ) (inner : Readers) (below : AreSound names n inner) where
   nested_abstract_reads : (stars : ℕ) (ts : Kinds) (a : AbstractDeclarator) (h : ℕ) (rest : Kinds) → 0 < stars → opens_abstract names inner ts ≡ true → nested_abstract names inner stars ts ≡ Some ((a, h), rest) → StarredReads names n stars ts a h rest
   unfolding nested_abstract same_mark
   nested_abstract_reads stars ts a h rest some seen is = mark_answer mark.LeftParenthesis ts _ _ is (λ ks begin go.
-      tree_answer inner.abstract below.abstract ks _ _ go (λ inside hi us front split low here go.
+      tree_answer inner.abstract below.abstract ks _ _ go (λ inside hi us prefix split low here go.
       mark_answer mark.RightParenthesis us _ _ go (λ vs close go.
       tree_answer (suffixes names inner) (suffixes_read names n inner below) vs _ _ go (λ ss hs ws sts cut short parts last.
       let star : sees mark.Star ks ≡ true = subst (λ us. sees mark.Star (behind us) ≡ true) begin (both_true (sees mark.LeftParenthesis ts) (sees mark.Star (behind ts)) seen).1 in
       let f = abstract_star here us (rw close refl) (rw split at star) in
       pure_holds (λ a h rest. StarredReads names n stars ts a h rest) last (
-        (Mark mark.LeftParenthesis ∷ front ++ Mark mark.RightParenthesis ∷ []) ++ sts,
+        (Mark mark.LeftParenthesis ∷ prefix ++ Mark mark.RightParenthesis ∷ []) ++ sts,
         max hi hs,
-        join (Mark mark.LeftParenthesis ∷ front ++ Mark mark.RightParenthesis ∷ []) sts ws (push (front ++ Mark mark.RightParenthesis ∷ []) vs begin (join front (Mark mark.RightParenthesis ∷ []) vs split close)) cut,
+        join (Mark mark.LeftParenthesis ∷ prefix ++ Mark mark.RightParenthesis ∷ []) sts ws (push (prefix ++ Mark mark.RightParenthesis ∷ []) vs begin (join prefix (Mark mark.RightParenthesis ∷ []) vs split close)) cut,
         refl,
         max_low _ _ _ low short,
-        AbstractForm.nested _ stars _ _ ss inside f.0 f.1 hs front sts (ap (λ m. max m hs) f.3) (inl some) f.2 (sym (append_assoc (star_kinds stars) (wrapped 1 front) sts)) refl f.4 parts,
+        AbstractForm.nested _ stars _ _ ss inside f.0 f.1 hs prefix sts (ap (λ m. max m hs) f.3) (inl some) f.2 (sym (append_assoc (star_kinds stars) (wrapped 1 prefix) sts)) refl f.4 parts,
       )))))
 
   abstract_behind_reads : (stars : ℕ) (ts : Kinds) (a : AbstractDeclarator) (h : ℕ) (rest : Kinds) → (0 < stars) ⊎ (opens_abstract names inner ts ≡ false) → abstract_behind names inner stars ts ≡ Some ((a, h), rest) → StarredReads names n stars ts a h rest
@@ -136,14 +137,14 @@ module _ (names : List (List ℕ)) (n : ℕ) (inner : Readers) (below : AreSound
   starred_apart (suc stars) ts us is none = inl (omega arith)
 
   starred_reads : (ts : Kinds) (a : AbstractDeclarator) (h : ℕ) (rest : Kinds) → (0 < (run mark.Star ts).0) ⊎ (opens_abstract names inner ts ≡ false) → starred names inner ts ≡ Some ((a, h), rest)
-      → (front : Kinds) × (hf : ℕ) × (ts ≡ front ++ rest) × (h ≡ 1 + hf) × (hf ≤ n) × AbstractForm names hf (run mark.Star ts).0 front a
+      → (prefix : Kinds) × (hf : ℕ) × (ts ≡ prefix ++ rest) × (h ≡ 1 + hf) × (hf ≤ n) × AbstractForm names hf (run mark.Star ts).0 prefix a
   unfolding starred
   starred_reads ts a h rest apart is =
       let split = run_split mark.Star ts in
       let b = abstract_behind_reads (run mark.Star ts).0 (run mark.Star ts).1 a h rest (elim apart [ inl some ↦ inl some | inr none ↦ starred_apart _ ts _ split none ]) is in
       (star_kinds (run mark.Star ts).0 ++ b.0, b.1, join (star_kinds (run mark.Star ts).0) b.0 rest split b.2, b.3, b.4, b.5)
 
-  bracketed_abstract_reads : (ts : Kinds) (a : AbstractDeclarator) (h : ℕ) (rest : Kinds) → opens_abstract names inner ts ≡ true → bracketed_abstract names inner n ts ≡ Some ((a, h), rest) → Reads (AbstractReads names) (suc n) ts a h rest
+  bracketed_abstract_reads : (ts : Kinds) (a : AbstractDeclarator) (h : ℕ) (rest : Kinds) → opens_abstract names inner ts ≡ true → bracketed_abstract names inner n ts ≡ Some ((a, h), rest) → ReadsPrefix (AbstractReads names) (suc n) ts a h rest
   unfolding bracketed_abstract
   bracketed_abstract_reads ts a h rest seen is = mark_answer mark.LeftParenthesis ts _ _ is (λ ks begin go.
       both_answer (starred names inner ks) _ _ go (λ inside us here go.

@@ -1,11 +1,26 @@
--- The readers of a depth, one by one.
+-- The readers of a depth, one by one, by those of the depth below.
 use Rattle.std.proofs.Common.{◌≡◌, ℕ, zero, suc, ◌-◌, ◌<◌, Bool, List, None, refl, ap, ◌∙◌, arith}
+use Rattle.c_tokens.specs.declared.token.Mark.TheVariants as mark
 use Rattle.c_tree.specs.Marks.{Kinds}
 use Rattle.c_expr.specs.inner.Nests.{below}
+use Rattle.c_expr.specs.inner.Parser.{◌>>=◌, run}
 use Rattle.c_expr.specs.inner.Readers as reader
 use Rattle.c_expr.specs.inner.Readers.{Readers, readers, nothing}
-use Rattle.c_tokens.specs.declared.token.Mark.TheVariants as mark
-use Rattle.c_expr.specs.inner.Parser.{◌>>=◌, run}
+
+pub below_zero : (names : List (List ℕ)) (depth : ℕ) → depth ≡ 0 → below names depth ≡ nothing
+unfolding below
+below_zero names depth is = ap (λ d. below names d) is
+
+pub below_suc : (names : List (List ℕ)) (depth : ℕ) → below names (suc depth) ≡ readers names depth
+unfolding below
+below_suc names depth = refl
+
+pub below_more : (names : List (List ℕ)) (depth : ℕ) → 0 < depth → below names depth ≡ readers names (depth - 1)
+below_more names depth some = let e : depth ≡ suc (depth - 1) = omega arith in ap (λ d. below names d) e ∙ below_suc names (depth - 1)
+
+pub zero_expr : (names : List (List ℕ)) (depth least : ℕ) (ts : Kinds) → depth ≡ 0 → (readers names depth).expr least ts ≡ None
+unfolding readers
+zero_expr names depth least ts is = ap (λ d. (readers names d).expr least ts) is
 
 -- what holds at a depth behind another holds at each depth that is not 0
 pub some_depth : (P : ℕ → Type 0) → ((d : ℕ) → P (suc d)) → (depth : ℕ) → 0 < depth → P depth
@@ -79,4 +94,4 @@ module _ (names : List (List ℕ)) (inner : Readers) (limit : ℕ) where
   pub direct_more : (n stars : ℕ) (ts us vs : Kinds) → reader.opened names ts ≡ (n, us) → 0 < n → run mark.Star us ≡ (stars, vs)
       → reader.direct names inner limit ts ≡ (reader.direct_behind names inner (reader.named names inner) stars >>= reader.closed names inner limit n stars) vs
   unfolding reader.direct
-  direct_more n stars ts us vs is some front = ap (λ r. reader.direct_in names inner limit r.0 r.1) is ∙ direct_in_more n stars us vs some front
+  direct_more n stars ts us vs is some starred = ap (λ r. reader.direct_in names inner limit r.0 r.1) is ∙ direct_in_more n stars us vs some starred
