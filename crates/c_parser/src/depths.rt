@@ -1,3 +1,5 @@
+//! Statements and blocks of each depth, by the rules of the depth below.
+
 ghost use Rattle.std.specs.Prelude.{◌≡◌, ◌≤◌, ◌<◌, ◌^◌, IfOk};
 ghost use Rattle.c_expr.specs.inner.Reads.{Reads};
 ghost use Rattle.c_parser.specs.inner.Readers as reader;

@@ -1,3 +1,5 @@
+//! What the first token says of a statement.
+
 ghost use Rattle.std.specs.Prelude.{◌≡◌};
 ghost use Rattle.c_parser.specs.inner.Readers as reader;
 

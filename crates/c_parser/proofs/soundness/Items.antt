@@ -22,7 +22,7 @@ use Rattle.c_parser.proofs.ChainLemmas.{tall_answered, word_eaten}
 use Rattle.c_parser.proofs.soundness.Declarations.{init_over_sound, decl_of_sound, bare_decl}
 use Rattle.c_parser.proofs.soundness.Statements.{StmtsAreSound, block_sound, stmt_over_sound}
 
--- an item stands in front of this rest, and it declares these type names
+-- an item stands before this rest, and it declares these type names
 abbrev pub ItemRead : List (List ℕ) → ℕ → Kinds → Item × List (List ℕ) → Kinds → Type 0
 ItemRead names depth ts i rest = (prefix : Kinds) × (ts ≡ prefix ++ rest) × (h : ℕ) × (h ≤ depth) × ItemReads names h i.1 prefix i.0
 

@@ -20,7 +20,7 @@ use Rattle.c_parser.proofs.ChainLemmas.{tall_answered, word_eaten, word_expected
 use Rattle.c_expr.specs.inner.ParserLemmas.{plain_holds, tested, eaten, mark_answer, same_word_is, ReadsPrefix, Found, join, found_more, found_all}
 use Rattle.c_parser.proofs.soundness.Declarations.{option_sound, for_tests_sound, condition_sound, decl_sound, for_init_sound}
 
--- a statement stands in front of this rest, and where it may take an `else` none is left
+-- a statement stands before this rest, and where it may take an `else` none is left
 pub record StmtRead (names : List (List ℕ)) (depth : ℕ) (ts : Kinds) (s : Tall Stmt) (rest : Kinds) : Type 0 where
   pub prefix : Kinds
   pub split : ts ≡ prefix ++ rest

@@ -1,4 +1,4 @@
--- The readers of initialisers, declarations, statements and items, over those of expressions: which tokens each takes from the front.
+-- The readers of initialisers, declarations, statements and items, over those of expressions: which tokens each takes from those that come.
 use Rattle.std.specs.Prelude.{ℕ, zero, suc, ◌+◌, max, Bool, true, false, if◌then◌else◌, List, [], ◌∷◌, ◌++◌, length, map, Option, Some, None}
 use Rattle.c_tokens.specs.declared.token.Keyword.{Keyword}
 use Rattle.c_tokens.specs.declared.token.Keyword.TheVariants as word
