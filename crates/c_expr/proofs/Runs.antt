@@ -1,4 +1,4 @@
--- Turns of the loops that count tokens at the front.
+-- Turns of the loops that count the tokens that come.
 use Rattle.std.proofs.Common.{◌≡◌, ℕ, suc, ◌+◌, true, false, List, [], ◌∷◌, length, refl, sym, ap, subst, ◌∙◌, arith}
 use Rattle.c_tokens.specs.declared.token.Mark.{Mark as MarkName}
 use Rattle.c_tokens.specs.declared.token.Mark.TheVariants as mark

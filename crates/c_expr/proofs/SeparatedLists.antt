@@ -5,8 +5,8 @@ use Rattle.c_tokens.specs.declared.token.Mark.TheVariants as mark
 use Rattle.c_tree.specs.Marks.{Kinds}
 use Rattle.c_expr.specs.inner.Parser.{Parser, Tall, Outcome, separated_from, separated}
 use Rattle.c_expr.specs.Theorems.{ReadsOnly, Takes, Lacks}
-use Rattle.c_expr.specs.inner.ParserLemmas.{sees_is, after_is, after_other, Found, eaten, found_all, found_then, join}
-use Rattle.c_expr.proofs.soundness.Chains.{max_low, pure_parts, push, tree_answer}
+use Rattle.c_expr.specs.inner.ParserLemmas.{sees_is, after_is, after_other, Found, eaten, found_all, found_more, found_then, join}
+use Rattle.c_expr.proofs.soundness.Chains.{pure_parts, tree_answer}
 
 -- at least one item, with commas between; the height is the greatest of theirs
 pub data SeparatedRead {A : Type 0} (R : ℕ → Kinds → A → Type 0) : ℕ → Kinds → List A → Type 0 where
@@ -65,16 +65,9 @@ module _ {A : Type 0} (R : ℕ → Kinds → A → Type 0) (item : Parser (Tall 
   separated_from_found (suc n) found h ts all H rest is =
       tree_answer item reads ts _ _ is (λ x hx ks prefix split low here more.
       eaten mark.Comma ks _ _ _ more
-      (λ ls comma on. let o = separated_from_found n (found ++ x ∷ []) (max h hx) ls all H rest on in (
-        x ∷ o.0,
-        max hx o.1,
-        prefix ++ Mark mark.Comma ∷ o.2,
-        o.3 ∙ append_assoc found (x ∷ []) o.0,
-        omega (arith, o.4),
-        join prefix (Mark mark.Comma ∷ o.2) rest split (push o.2 rest comma o.5),
-        max_low _ _ _ low o.6,
-        SeparatedRead.more_items _ _ _ x o.0 hx o.1 prefix o.2 refl refl refl here o.7,
-      ))
+      (λ ls comma on. found_more found h x hx (prefix ++ Mark mark.Comma ∷ []) ls (join prefix (Mark mark.Comma ∷ []) ls split comma) low
+      (λ ho os others read. SeparatedRead.more_items _ _ _ x others hx ho prefix os refl (append_assoc prefix (Mark mark.Comma ∷ []) os) refl here read)
+      (separated_from_found n (found ++ x ∷ []) (max h hx) ls all H rest on))
       (λ none last. let l = pure_parts _ _ _ _ _ last in
       (x ∷ [], hx, prefix, l.0, l.1, split ∙ ap (λ us. prefix ++ us) (sym l.2), low, SeparatedRead.one_item _ _ _ x refl here)))
 

@@ -1,5 +1,5 @@
 pub mod DeclaratorsBegin
-pub mod NamesToldApart
+pub mod NamedParametersAreToldApart
 pub mod Suffixes
 pub mod TypeWords
 pub mod Declarators
@@ -10,5 +10,5 @@ pub mod Heads
 pub mod Expressions
 pub mod EachDepth
 pub mod ReadersAreComplete
-pub mod LongestReads
+pub mod ReadersReadLongest
 pub mod LongestExpressions

@@ -1,3 +1,5 @@
+//! The functions that read at each depth, by the rules of that depth.
+
 ghost use Rattle.std.specs.Prelude.{◌≡◌, ◌≤◌, ◌<◌, ◌^◌, true, IfOk};
 ghost use Rattle.c_expr.specs.inner.Readers.{readers};
 ghost use Rattle.c_expr.specs.inner.Reads.{Reads};

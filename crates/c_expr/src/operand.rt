@@ -1,3 +1,5 @@
+//! Operands, and what they go on with.
+
 ghost use Rattle.std.specs.Prelude.{◌≡◌, ◌+◌, ◌<◌, ◌^◌, max, IfOk};
 ghost use Rattle.c_expr.specs.inner.Readers as reader;
 

@@ -1,4 +1,4 @@
--- The readers take declarators. Parentheses at the front are opened all at once, and each closes behind what it stands round.
+-- The readers take declarators. The parentheses that come first are opened all at once, and each closes behind what it stands round.
 use Rattle.std.proofs.Common.{◌≡◌, ℕ, zero, suc, ◌+◌, ◌<◌, ◌≤◌, inl, max, true, false, ◌&&◌, not, List, [], ◌∷◌, ◌++◌, Some, refl, subst, ◌∙◌, arith, append_assoc, nat_le, nat_lt, nat_eq, le-leb, lt-ltb, zero-add}
 use Rattle.std.proofs.Math.Dec.{eqb-suc-zero}
 use Rattle.c_tokens.specs.declared.token.Kind.TheVariants.{Name, Mark}
@@ -22,7 +22,7 @@ use Rattle.c_expr.specs.FirstTokens.{CanBeginDeclarator}
 use Rattle.c_expr.proofs.completeness.Suffixes.{suffixes_take, no_suffixes, closes_lacks_suffix, run_stars}
 use Rattle.c_expr.proofs.completeness.TypeWords.{some_suffixes}
 
--- the parentheses at the front, so many more being open
+-- the parentheses that come, so many more being open
 abbrev pub direct_from : List (List ℕ) → Readers → ℕ → ℕ → Kinds → Outcome Bracketed
 direct_from names r limit k ts = direct_in names r limit (k + (opened names ts).0) (opened names ts).1
 

@@ -15,7 +15,7 @@ use Rattle.c_expr.specs.inner.Readers.{begins_spec, looks_named}
 use Rattle.c_expr.specs.Theorems.{Lacks}
 use Rattle.c_expr.specs.FirstTokens.{Begins, CanBeginDeclarator}
 use Rattle.c_expr.specs.inner.FirstTokensLemmas.{Begins-append, Begins-same, OpensNothing}
-use Rattle.c_expr.proofs.completeness.NamesToldApart.{core, IsFreeName, NotFree}
+use Rattle.c_expr.proofs.completeness.NamedParametersAreToldApart.{core, IsFreeName, NotFree}
 use Rattle.c_expr.proofs.TypeNames.{contains_type_name, free_is_no_type_name}
 
 -- `(` or a name that is no type name

@@ -23,12 +23,12 @@ empty (t ∷ ts) none = absurd (omega arith)
 kinds_left : (at : ℕ) (tokens : List Token) → length (kinds_of (drop at tokens)) ≡ length tokens - at
 kinds_left at tokens = length-map (drop at tokens) (λ (t : Token). t.kind) ∙ length-drop at tokens
 
-module _ (sound : ReadersAreSound) (furthest : ReadersReadLongest) where
+module _ (sound : ReadersAreSound) (reads_longest : ReadersReadLongest) where
   -- whatever expression begins the tokens, the answer leaves no more than stands behind it
   leaves_less : (names : List (List ℕ)) (depth : ℕ) (ts : Kinds) (e : Expr) (h : ℕ) (rest : Kinds) → (readers names depth).expr 0 ts ≡ Some ((e, h), rest)
       → (other behind : Kinds) (g : ℕ) (f : Expr) → ts ≡ other ++ behind → g ≤ depth → ExprReads names 0 g other f → length rest ≤ length behind
   leaves_less names depth ts e h rest read other behind g f is deep read_other =
-      let more = furthest names 0 g depth other behind f (omega arith) deep read_other in
+      let more = reads_longest names 0 g depth other behind f (omega arith) deep read_other in
       let same : rest ≡ more.3 = (found_both (sym read ∙ ap (λ ks. (readers names depth).expr 0 ks) is ∙ more.5)).1 in
       omega (arith, ap length same, ap length more.4, length-append more.2 more.3)
 
@@ -55,7 +55,7 @@ module _ (sound : ReadersAreSound) (furthest : ReadersReadLongest) where
 
   pub none_of : (names : List (List ℕ)) (depth : ℕ) (ts : Kinds) → (readers names depth).expr 0 ts ≡ None → BeginsNoExpression names depth ts
   none_of names depth ts none prefix rest h e is deep read_prefix =
-      let more = furthest names 0 h depth prefix rest e (omega arith) deep read_prefix in
+      let more = reads_longest names 0 h depth prefix rest e (omega arith) deep read_prefix in
       cc (none, ap (λ ks. (readers names depth).expr 0 ks) is, more.5)
 
   -- the same, at a place of the tokens

@@ -207,7 +207,7 @@ module _ (names : List (List ℕ)) (r : Readers) where
   unfolding close
   close_done limit least o rest le stops = rw (grow_stops limit least o rest (going_stops limit least o rest stops)) (rw (le-leb least o.level le))
 
-  -- ---- the front
+  -- ---- what it begins with
 
   level_in_by : (limit least k : ℕ) (ts : Kinds) (q : ℕ × Kinds) → opened names ts ≡ q → level_in names r limit least k ts ≡ and_then (head names r q.1) (close names r limit least (k + q.0))
   unfolding level_in

@@ -1,4 +1,4 @@
--- The parts behind an operand, and the heads in front of it, are taken as the grammar has them.
+-- The parts behind an operand are taken as the grammar has them.
 use Rattle.std.proofs.Common.{◌≡◌, ℕ, ◌+◌, ◌≤◌, max, Bool, true, false, IsTrue, List, [], ◌∷◌, ◌++◌, Some, None, refl, subst, arith}
 use Rattle.std.proofs.lemmas.Bool.{false≢true}
 use Rattle.c_tokens.specs.declared.token.Keyword.TheVariants as word

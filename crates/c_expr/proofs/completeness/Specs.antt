@@ -18,7 +18,7 @@ use Rattle.c_expr.specs.Theorems.{Takes, Lacks, Closes, ClosesParenthesis, Lacks
 use Rattle.c_expr.specs.FirstTokens.{Begins, CanBeginSpec, CanBeginDeclarator}
 use Rattle.c_expr.specs.inner.FirstTokensLemmas.{Begins-append, Begins-same, declarator_lacks, brace_opens_nothing, spec_lacks}
 use Rattle.c_expr.proofs.FormsBegin.{SpecReads-begins}
-use Rattle.c_expr.proofs.completeness.NamesToldApart.{core, NotFree, DeclaratorReads-core, AbstractReads-core, ParamReads-begins, ParamListReads-begins}
+use Rattle.c_expr.proofs.completeness.NamedParametersAreToldApart.{core, NotFree, DeclaratorReads-core, AbstractReads-core, ParamReads-begins, ParamListReads-begins}
 use Rattle.c_expr.proofs.TypeNames.{contains_type_name, free_is_no_type_name}
 use Rattle.c_expr.proofs.SeparatedLists.{SeparatedRead, TakesItems, separated_takes}
 use Rattle.c_expr.proofs.completeness.DeclaratorsBegin.{DeclaratorReads-begins, AbstractReads-lacks, declarator_some, closing_opens_nothing, named_looks, unnamed_looks}

@@ -14,7 +14,7 @@ use Rattle.c_expr.specs.inner.Parser.{same_mark, sees, behind, expect}
 use Rattle.c_expr.specs.inner.Readers.{Readers, suffixes, nested_abstract, abstract_behind, starred, with_suffixes, bracketed_abstract, abstract, type_word, is_none}
 use Rattle.c_expr.specs.Theorems.{Takes, Lacks, Closes, ClosesParenthesis, AreComplete}
 use Rattle.c_expr.specs.FirstTokens.{CanBeginSpec}
-use Rattle.c_expr.proofs.completeness.NamesToldApart.{ParamListReads-begins}
+use Rattle.c_expr.proofs.completeness.NamedParametersAreToldApart.{ParamListReads-begins}
 use Rattle.c_expr.proofs.completeness.DeclaratorsBegin.{AbstractReads-lacks, suffixes_lack}
 use Rattle.c_expr.specs.inner.FirstTokensLemmas.{brace_opens_nothing, spec_lacks}
 use Rattle.c_expr.proofs.completeness.Suffixes.{lacks_append, suffixes_take, closes_lacks_suffix, run_stars}
@@ -35,7 +35,7 @@ closes_no_star : (rest : Kinds) → Closes rest → Lacks mark.Star rest
 unfolding same_mark
 closes_no_star rest ends = closes_lacks mark.Star refl refl rest ends
 
--- ---- which readers a front chooses
+-- ---- which readers the first tokens choose
 
 params_no_star : {names : List (List ℕ)} {h : ℕ} {ts : Kinds} {p : Params} → ParamsRead names h ts p → (rest : Kinds) → Lacks mark.Star (ts ++ Mark mark.RightParenthesis ∷ rest)
 unfolding same_mark

@@ -13,7 +13,7 @@ use Rattle.c_expr.specs.inner.Parser.{same_mark, sees, behind, run}
 use Rattle.c_expr.specs.inner.Readers.{Readers, bound, suffix, opens_suffix, suffixes_from, suffixes, opens_abstract, nested_abstract, abstract_behind, starred, is_none, bracketed_abstract, abstract}
 use Rattle.c_expr.specs.Theorems.{ReadsOnly, AreSound}
 use Rattle.c_expr.proofs.soundness.Chains.{both_true, tree_answer, run_some, pure_answer, pure_holds, push, run_split, max_low, zero_low, above_low}
-use Rattle.c_expr.specs.inner.ParserLemmas.{both_answer, mark_answer, tested, tested_at, eaten, ReadsPrefix, join, Found, found_all}
+use Rattle.c_expr.specs.inner.ParserLemmas.{both_answer, mark_answer, tested, tested_at, eaten, ReadsPrefix, join, Found, found_all, found_more}
 
 -- ---- suffixes
 
@@ -46,16 +46,9 @@ module _ (names : List (List ℕ)) (n : ℕ) (inner : Readers) (below : AreSound
       pure_holds (λ all H rest. Found (SuffixesRead names) n found h ts all H rest) is ([], 0, [], sym (append-nil found), sym (max-zero h), refl, zero_low n, SuffixesRead.no_suffix _ _ _ refl refl refl)
   suffixes_from_found (suc k) found h ts all H rest is = tested (opens_suffix names inner ts) _ _ _ is
       (λ opens go. tree_answer (suffix names inner) suffix_reads ts _ _ go (λ s hs ks prefix split low here more.
-      let o = suffixes_from_found k (found ++ s ∷ []) (max h hs) ks all H rest more in (
-        s ∷ o.0,
-        max hs o.1,
-        prefix ++ o.2,
-        o.3 ∙ append_assoc found (s ∷ []) o.0,
-        omega (arith, o.4),
-        join prefix o.2 rest split o.5,
-        max_low _ _ _ low o.6,
-        SuffixesRead.more_suffixes _ _ _ s o.0 hs o.1 prefix o.2 refl refl refl here o.7,
-      )))
+      found_more found h s hs prefix ks split low
+      (λ ho os others read. SuffixesRead.more_suffixes _ _ _ s others hs ho prefix os refl refl refl here read)
+      (suffixes_from_found k (found ++ s ∷ []) (max h hs) ks all H rest more)))
       (λ none last. pure_holds (λ all H rest. Found (SuffixesRead names) n found h ts all H rest) last ([], 0, [], sym (append-nil found), sym (max-zero h), refl, zero_low n, SuffixesRead.no_suffix _ _ _ refl refl refl))
 
   pub suffixes_read : ReadsOnly (suffixes names inner) n (SuffixesRead names)

@@ -1,4 +1,4 @@
--- What an answer of a chain of readers says of each of its links, and what lists with commas come to.
+-- What an answer of a chain of readers says of each of its links.
 use Rattle.std.proofs.Common.{◌≡◌, ℕ, zero, suc, ◌+◌, ◌<◌, ◌≤◌, max, Bool, true, false, not, ◌&&◌, if◌then◌else◌, List, [], ◌∷◌, ◌++◌, Some, None, refl, sym, ap, subst, ◌∙◌, arith, length, replicate, append_assoc}
 use Rattle.std.proofs.Math.Nat.{zero-max}
 use Rattle.c_tokens.specs.declared.token.Kind.{Kind}
@@ -21,7 +21,7 @@ pub both_true : (a b : Bool) → (a && b) ≡ true → (a ≡ true) × (b ≡ tr
 both_true true b is = (refl, is)
 both_true false b is = cc
 
--- the marks of a run stand in front of what is behind it
+-- the marks of a run stand before what is behind it
 pub run_split : (m : MarkName) (ts : Kinds) → ts ≡ replicate (run m ts).0 (Mark m) ++ (run m ts).1
 run_split m [] = refl
 run_split m (k ∷ ks) = by (is_mark m k) refl (run_split m ks)
@@ -34,7 +34,7 @@ pub run_some : (m : MarkName) (ts : Kinds) → sees m ts ≡ true → 0 < (run m
 run_some m [] seen = cc
 run_some m (k ∷ ks) seen = rw seen (omega arith)
 
--- so many parentheses open in front of the tokens
+-- so many parentheses open before the tokens
 abbrev pub opens : ℕ → Kinds → Kinds
 opens zero ts = ts
 opens (suc k) ts = opens k (Mark mark.LeftParenthesis ∷ ts)
@@ -50,7 +50,7 @@ mark_is m k b both = by (is_mark m k) refl both
     by true seen both = let found = sees_true m (k ∷ []) seen in cc
     by false seen both = cc
 
--- those that open with no type behind them stand in front of what is behind them
+-- those that open with no type behind them stand before what is behind them
 pub opened_split : (names : List (List ℕ)) (ts : Kinds) → ts ≡ opens (opened names ts).0 (opened names ts).1
 opened_split names [] = refl
 opened_split names (k ∷ ks) = by (is_mark mark.LeftParenthesis k && not (begins_spec names ks)) refl (opened_split names ks)

@@ -44,7 +44,7 @@ pub record BracketedReads (names : List (List ℕ)) (n : ℕ) (x : List ℕ) (pr
 abbrev pub DirectIs : List (List ℕ) → List ℕ → Kinds → Bracketed → Type 0
 DirectIs names x prefix b = DirectReads names b.height x prefix (direct_of b.core)
 
--- some tokens at the front are so
+-- a prefix of the tokens is so
 abbrev pub DirectFound : List (List ℕ) → ℕ → Kinds → Bracketed → Kinds → Type 0
 DirectFound names n ts b rest = (prefix : Kinds) × (x : List ℕ) × (ts ≡ prefix ++ rest) × DirectIs names x prefix b × BracketedReads names n x prefix b
 

@@ -1,4 +1,4 @@
--- Operands: what grows by the parts behind it, and closes the parentheses in front of it, is an expression of the grammar.
+-- Operands: what grows by the parts behind it, and closes the parentheses before it, is an expression of the grammar.
 use Rattle.std.proofs.Common.{◌≡◌, ℕ, zero, suc, ◌+◌, ◌<◌, ◌≤◌, ◌⊎◌, inl, inr, max, Bool, true, ◌&&◌, nat_le, nat_lt, List, [], ◌∷◌, ◌++◌, Option, Some, None, refl, sym, ap, subst, ◌∙◌, arith, length}
 use Rattle.std.proofs.Math.Nat.{zero-add}
 use Rattle.std.proofs.lemmas.Bool.{leb-true}
@@ -77,7 +77,7 @@ going_on_some : (n least : ℕ) (o : Operand) (ts : Kinds) (c : Continuation) �
 unfolding going_on
 going_on_some n least o ts c is = taken_some n least o (continuation ts) c is
 
--- some tokens at the front are so
+-- a prefix of the tokens is so
 abbrev pub OperandFound : List (List ℕ) → ℕ → Kinds → Operand → Kinds → Type 0
 OperandFound names n ts o rest = (prefix : Kinds) × (ts ≡ prefix ++ rest) × OperandReads names n prefix o
 
@@ -133,7 +133,7 @@ module _ (names : List (List ℕ)) (n : ℕ) (inner : Readers) (below : AreSound
       (close_reads least k (bracketed whole) (Mark mark.LeftParenthesis ∷ g.0 ++ Mark mark.RightParenthesis ∷ []) us e h rest (bracketed_reads whole ((Decides-ltb whole.pairs greatest_pairs).0 few) g.2) last))
       (λ many none. cc)))
 
-  -- ---- the front
+  -- ---- what it begins with
 
   sizeof_reads : (ts : Kinds) (o : Operand) (rest : Kinds) → sizeof names inner ts ≡ Some (o, rest) → OperandBehind names n (Word word.Sizeof) ts o rest
   unfolding sizeof

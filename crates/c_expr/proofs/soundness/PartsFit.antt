@@ -1,4 +1,4 @@
--- What a part takes are tokens from the front, and it makes a whole of the level of its mark.
+-- What a part takes is a prefix of the tokens, and it makes a whole of the level of its mark.
 use Rattle.std.proofs.Common.{◌≡◌, ℕ, ◌+◌, max, List, [], ◌∷◌, ◌++◌, Some, refl, sym, ap, ◌∙◌, arith, length, length-append}
 use Rattle.c_tokens.specs.declared.token.Kind.TheVariants.{Word, Name, Number, Text, Mark}
 use Rattle.c_tokens.specs.declared.token.Mark.TheVariants as mark

@@ -17,7 +17,7 @@ use Rattle.c_expr.specs.inner.Parser.{Parser, Tall, same_mark, same_word, is_wor
 use Rattle.c_expr.specs.inner.Readers.{Readers, is_type_name, free_name, member, members_from, members, struct_body, struct, spec_by, spec, type_word, looks_named, param, is_void_alone, params}
 use Rattle.c_expr.specs.Theorems.{ReadsOnly, ClosesParenthesis, AreSound}
 use Rattle.c_expr.proofs.TypeNames.{type_name_contains}
-use Rattle.c_expr.specs.inner.ParserLemmas.{same_word_true, both_answer, mark_answer, tested, tested_at, eaten, ReadsPrefix, join, Found, found_all}
+use Rattle.c_expr.specs.inner.ParserLemmas.{same_word_true, both_answer, mark_answer, tested, tested_at, eaten, ReadsPrefix, join, Found, found_all, found_more}
 use Rattle.c_expr.proofs.soundness.Chains.{both_true, tree_answer, pure_answer, pure_holds, push, max_low, zero_low, above_low}
 use Rattle.c_expr.proofs.SeparatedLists.{SeparatedRead, separated_found}
 use Rattle.c_expr.proofs.soundness.Declarators.{free_name_is}
@@ -53,7 +53,7 @@ pub record MemberReads (names : List (List ℕ)) (h : ℕ) (ts : Kinds) (m : Mem
 max_three : (h hs hd hm ho : ℕ) → hm ≡ max hs hd → h ≡ max hm ho → h ≡ max hs (max hd ho)
 max_three h hs hd hm ho one all = omega arith
 
--- a member in front of others
+-- a member before others
 member_more : (names : List (List ℕ)) (hm ho : ℕ) (ts os : Kinds) (m : MemberDecl) (others : List MemberDecl) → MemberReads names hm ts m → MembersRead names ho os others → MembersRead names (max hm ho) (ts ++ os) (m ∷ others)
 member_more names hm ho ts os m others r more =
     MembersRead.more_members _ _ _ r.s r.xs r.ds others r.hs r.hd ho r.ss r.dts os (max_three _ r.hs r.hd hm ho r.height refl)
@@ -97,16 +97,9 @@ module _ (names : List (List ℕ)) (n : ℕ) (inner : Readers) (below : AreSound
         (prefix ++ [], refl, (λ none. cc), member_more names hm 0 prefix [] m [] here (MembersRead.no_member _ _ _ refl refl refl)),
       ))
       (λ none more.
-      let o = members_from_found k (found ++ m ∷ []) (max h hm) ks all H rest more in (
-        m ∷ o.0,
-        max hm o.1,
-        prefix ++ o.2,
-        o.3 ∙ append_assoc found (m ∷ []) o.0,
-        omega (arith, o.4),
-        join prefix o.2 rest split o.5,
-        max_low _ _ _ low o.6,
-        (prefix ++ o.7.0, ap (λ us. prefix ++ us) o.7.1 ∙ sym (append_assoc prefix o.7.0 (Mark mark.RightBrace ∷ [])), (λ none. cc), member_more names hm o.1 prefix o.7.0 m o.0 here o.7.3),
-      )))
+      found_more found h m hm prefix ks split low
+      (λ ho os others read. (prefix ++ read.0, ap (λ us. prefix ++ us) read.1 ∙ sym (append_assoc prefix read.0 (Mark mark.RightBrace ∷ [])), (λ none. cc), member_more names hm ho prefix read.0 m others here read.3))
+      (members_from_found k (found ++ m ∷ []) (max h hm) ks all H rest more)))
 
   members_read : ReadsOnly (members names inner) n (BodyReads names)
   unfolding members

@@ -1,4 +1,4 @@
--- A parser takes tokens from the front. It answers what they are and the tokens behind, or nothing where they are none of it.
+-- A parser takes tokens from those that come. It answers what they are and the tokens behind, or nothing where they are none of it.
 use Rattle.std.specs.Prelude.{ℕ, zero, suc, Bool, false, if◌then◌else◌, List, [], ◌∷◌, ◌++◌, length, max, Option, Some, None}
 use denote.Enum.Bare.{sameb}
 use Rattle.c_tokens.specs.contracts.token.Keyword.{the_type as the_keywords}
@@ -75,7 +75,7 @@ eat m = λ ts. Some (sees m ts, after m ts)
 unfoldable pub expect : MarkName → Parser (Unit {0})
 expect m = λ ts. if sees m ts then Some (tt, behind ts) else None
 
--- how many of this mark stand at the front, and the tokens behind them
+-- how many of this mark come, and the tokens behind them
 abbrev pub run : MarkName → Kinds → ℕ × Kinds
 run m [] = (0, [])
 run m (k ∷ ks) = let more = run m ks in if is_mark m k then (suc more.0, more.1) else (0, k ∷ ks)

@@ -1,4 +1,4 @@
--- The readers of expressions, type words and declarators: which tokens each takes from the front. `Readers` are those of one
+-- The readers of expressions, type words and declarators: which tokens each takes from those that come. `Readers` are those of one
 -- depth, made of those of the depth below. A tree goes with the depth of its nodes, which the readers keep at most theirs.
 use Rattle.std.specs.Prelude.{ℕ, zero, suc, ◌+◌, max, Bool, true, false, not, ◌&&◌, ◌||◌, if◌then◌else◌, nat_le, nat_lt, nat_eq, List, [], ◌∷◌, ◌++◌, length, Option, Some, None}
 use Rattle.std.specs.Str.{bytes_eq}
@@ -205,7 +205,7 @@ module _ (names : List (List ℕ)) where
   abbrev pub opens_type : Kinds → Bool
   opens_type ts = sees mark.LeftParenthesis ts && begins_spec (behind ts)
 
-  -- how many parentheses open at the front with no type behind them, and the tokens behind these
+  -- how many parentheses open first with no type behind them, and the tokens behind these
   abbrev pub opened : Kinds → ℕ × Kinds
   opened [] = (0, [])
   opened (k ∷ ks) = let more = opened ks in if is_mark mark.LeftParenthesis k && not (begins_spec ks) then (suc more.0, more.1) else (0, k ∷ ks)
@@ -223,7 +223,7 @@ module _ (names : List (List ℕ)) where
   kind_is_free (Name x) = not (is_type_name names x)
   kind_is_free _ = false
 
-  -- behind the parentheses and stars at the front stands a name that is no type name
+  -- behind the parentheses and stars that come stands a name that is no type name
   abbrev pub looks_named : Kinds → Bool
   looks_named [] = false
   looks_named (k ∷ ks) = if is_mark mark.LeftParenthesis k || is_mark mark.Star k then looks_named ks else kind_is_free k

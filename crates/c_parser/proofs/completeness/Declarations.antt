@@ -256,6 +256,6 @@ module _ (names : List (List ℕ)) (first : FirstTokens names) (depth : ℕ) (r 
     for_init_takes deep (ForInitReads.computed h ts f o os is fi read) rest = rw (is, fi, append_assoc os (Mark mark.Semicolon ∷ []) rest) (if_no (begins_spec names (os ++ Mark mark.Semicolon ∷ rest)) _ _ _ (option_no_spec rest read)
         (then_takes _ _ (o, h) rest _ (option_takes mark.Semicolon refl refl deep read rest) refl))
       where
-        option_no_spec : {names : List (List ℕ)} {h : ℕ} {os : Kinds} {o : Option FullExpr} (rest : Kinds) → OptionReads names h os o → begins_spec names (os ++ Mark mark.Semicolon ∷ rest) ≡ false
+        option_no_spec : {h : ℕ} {os : Kinds} {o : Option FullExpr} (rest : Kinds) → OptionReads names h os o → begins_spec names (os ++ Mark mark.Semicolon ∷ rest) ≡ false
         option_no_spec rest (OptionReads.nothing h os o hi is oi) = rw is refl
-        option_no_spec {names} rest (OptionReads.some h os o e oi read) = first.no_spec_seen _ (Begins-append _ os _ (first.expression read))
+        option_no_spec rest (OptionReads.some h os o e oi read) = first.no_spec_seen _ (Begins-append _ os _ (first.expression read))

@@ -18,7 +18,7 @@ use Rattle.c_expr.proofs.completeness.Heads.{Leads}
 use Rattle.c_expr.proofs.completeness.Expressions.{FormEnds, form_ends, bracketed_led}
 use Rattle.c_expr.proofs.completeness.EachDepth.{expression_has_node}
 
--- ---- growing takes tokens from the front, and keeps the level
+-- ---- growing takes a prefix of the tokens, and keeps the level
 
 -- an outcome is an operand of this level or a tighter one, and what is left of the tokens
 record Grows (least : ℕ) (ts : Kinds) (out : Outcome Operand) : Type 0 where

@@ -17,7 +17,7 @@ use Rattle.c_expr.specs.FirstTokens.{Begins, CanBeginSpec}
 use Rattle.c_expr.specs.inner.FirstTokensLemmas.{Begins-append, Begins-same}
 use Rattle.c_expr.proofs.FormsBegin.{SpecReads-begins}
 
--- what is left behind each `(` and `*` at the front
+-- what is left behind each `(` and `*` that comes
 abbrev pub core : Kinds → Kinds
 core [] = []
 core (Mark mark.LeftParenthesis ∷ ks) = core ks
