@@ -1,5 +1,5 @@
 -- What each form begins with, that none of them is empty, and what the test for specs says of them.
-use Rattle.std.proofs.Common.{◌≡◌, ◌≢◌, ℕ, zero, suc, Bool, true, false, IsTrue, List, [], ◌∷◌, ◌++◌, refl, sym, subst}
+use Rattle.std.proofs.Common.{◌≡◌, ◌≢◌, ℕ, zero, suc, Bool, true, false, IsTrue, List, [], ◌∷◌, ◌++◌, refl, subst}
 use Rattle.std.proofs.lemmas.Bool.{false≢true}
 use Rattle.c_tokens.specs.declared.token.Keyword.TheVariants as word
 use Rattle.c_tokens.specs.declared.token.Kind.{Kind}

@@ -1,10 +1,6 @@
 -- The parts behind an operand are taken as the grammar has them.
-use Rattle.std.proofs.Common.{◌≡◌, ℕ, ◌+◌, ◌≤◌, max, Bool, true, false, IsTrue, List, [], ◌∷◌, ◌++◌, Some, None, refl, subst, arith}
-use Rattle.std.proofs.lemmas.Bool.{false≢true}
-use Rattle.c_tokens.specs.declared.token.Keyword.TheVariants as word
-use Rattle.c_tokens.specs.declared.token.Kind.{Kind}
-use Rattle.c_tokens.specs.declared.token.Kind.TheVariants.{Word, Name, Number, Text, Mark}
-use Rattle.c_tokens.specs.declared.token.Mark.{Mark as MarkName}
+use Rattle.std.proofs.Common.{◌≡◌, ℕ, ◌+◌, ◌≤◌, max, false, List, ◌∷◌, ◌++◌, Some, refl, arith}
+use Rattle.c_tokens.specs.declared.token.Kind.TheVariants.{Name, Mark}
 use Rattle.c_tokens.specs.declared.token.Mark.TheVariants as mark
 use Rattle.c_tree.specs.declared.operator.AssignOperator.{AssignOperator}
 use Rattle.c_tree.specs.declared.operator.AssignOperator.TheVariants as assign
@@ -15,12 +11,12 @@ use Rattle.c_tree.specs.Marks.{Kinds, assign_mark, binary_mark, assign_level, co
 use Rattle.c_tree.specs.Grammar.{IsFree, ExprReads, ArgumentsRead, ArgumentListReads}
 use Rattle.c_expr.specs.declared.operand.Continuation.TheVariants as goes
 use Rattle.c_expr.specs.declared.operand.Part.TheVariants as part_as
-use Rattle.c_expr.specs.inner.Parser.{same_mark, is_mark, sees}
-use Rattle.c_expr.specs.inner.Readers.{Readers, continuation, continuation_of, part, arguments, index, arms, free_name, begins_spec, kind_begins_spec}
+use Rattle.c_expr.specs.inner.Parser.{same_mark}
+use Rattle.c_expr.specs.inner.Readers.{Readers, continuation, part, arguments, index, arms, free_name}
 use Rattle.c_expr.specs.Theorems.{AreComplete, Stops}
-use Rattle.c_expr.specs.inner.ParserLemmas.{sees_is, after_is, after_other, expect_is, same_mark_true}
-use Rattle.c_expr.proofs.TypeNames.{free_is_no_type_name, contains_type_name}
-use Rattle.c_expr.specs.FirstTokens.{Begins, CanBeginExpression, CanBeginSpec, mark_begins_expression}
+use Rattle.c_expr.specs.inner.ParserLemmas.{sees_is, after_is, after_other, expect_is}
+use Rattle.c_expr.proofs.TypeNames.{free_is_no_type_name}
+use Rattle.c_expr.specs.FirstTokens.{Begins, CanBeginExpression}
 use Rattle.c_expr.specs.inner.FirstTokensLemmas.{Begins-append, Begins-same, expression_lacks, stops_at}
 use Rattle.c_expr.proofs.FormsBegin.{ExprReads-begins, ExprReads-some}
 use Rattle.c_expr.proofs.SeparatedLists.{SeparatedRead, TakesItems, separated_takes, length_some}

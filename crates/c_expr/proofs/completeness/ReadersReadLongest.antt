@@ -4,7 +4,7 @@ use Rattle.std.proofs.lemmas.Bool.Decides.{nat_tests}
 use Rattle.c_tokens.specs.declared.token.Kind.{Kind}
 use Rattle.c_tree.specs.declared.expression.Expr.{Expr}
 use Rattle.c_tree.specs.Marks.{Kinds, primary_level}
-use Rattle.c_tree.specs.Grammar.{ExprReads, ExprForm}
+use Rattle.c_tree.specs.Grammar.{ExprReads}
 use Rattle.c_expr.specs.declared.operand.Continuation.{Continuation}
 use Rattle.c_expr.specs.declared.operand.Operand.{Operand}
 use Rattle.c_expr.specs.declared.operand.Part.{Part}

@@ -1,7 +1,7 @@
 -- The readers take suffixes.
-use Rattle.std.proofs.Common.{◌≡◌, ℕ, zero, suc, ◌<◌, ◌≤◌, inl, inr, max, Bool, true, false, ◌||◌, IsTrue, List, [], ◌∷◌, ◌++◌, length, Some, None, refl, ap, ◌∙◌, arith, append_assoc, append-nil, length-append}
+use Rattle.std.proofs.Common.{◌≡◌, ℕ, zero, suc, ◌<◌, ◌≤◌, inl, inr, max, true, ◌||◌, List, [], ◌∷◌, ◌++◌, length, Some, None, refl, ap, ◌∙◌, arith, append_assoc, append-nil, length-append}
 use Rattle.c_tokens.specs.declared.token.Kind.{Kind}
-use Rattle.c_tokens.specs.declared.token.Kind.TheVariants.{Word, Name, Number, Text, Mark}
+use Rattle.c_tokens.specs.declared.token.Kind.TheVariants.{Mark}
 use Rattle.c_tokens.specs.declared.token.Mark.{Mark as MarkName}
 use Rattle.c_tokens.specs.declared.token.Mark.TheVariants as mark
 use Rattle.c_tree.specs.declared.expression.Suffix.{Suffix}
@@ -10,9 +10,9 @@ use Rattle.c_tree.specs.Grammar.{star_kinds, SuffixesRead, SuffixReads}
 use Rattle.c_expr.specs.inner.Parser.{same_mark, sees, after, expect, run}
 use Rattle.c_expr.specs.inner.Readers.{Readers, continuation, bound, suffix, suffixes, suffixes_from}
 use Rattle.c_expr.specs.Theorems.{Lacks, Closes, LacksSuffix, Stops, AreComplete}
-use Rattle.c_expr.specs.FirstTokens.{Begins, CanBeginExpression, CanBeginSpec, mark_begins_expression}
+use Rattle.c_expr.specs.FirstTokens.{Begins, CanBeginExpression}
 use Rattle.c_expr.proofs.FormsBegin.{ExprReads-begins}
-use Rattle.c_expr.specs.inner.ParserLemmas.{same_mark_true, found_then}
+use Rattle.c_expr.specs.inner.ParserLemmas.{found_then}
 use Rattle.c_expr.specs.inner.FirstTokensLemmas.{expression_lacks}
 
 pub no_continuation : (least : ℕ) (ts : Kinds) → continuation ts ≡ None → Stops least ts

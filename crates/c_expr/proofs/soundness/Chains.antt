@@ -1,15 +1,14 @@
 -- What an answer of a chain of readers says of each of its links.
-use Rattle.std.proofs.Common.{◌≡◌, ℕ, zero, suc, ◌+◌, ◌<◌, ◌≤◌, max, Bool, true, false, not, ◌&&◌, if◌then◌else◌, List, [], ◌∷◌, ◌++◌, Some, None, refl, sym, ap, subst, ◌∙◌, arith, length, replicate, append_assoc}
-use Rattle.std.proofs.Math.Nat.{zero-max}
+use Rattle.std.proofs.Common.{◌≡◌, ℕ, zero, suc, ◌+◌, ◌<◌, ◌≤◌, max, Bool, true, false, not, ◌&&◌, List, [], ◌∷◌, ◌++◌, Some, refl, sym, ap, subst, ◌∙◌, arith, replicate}
 use Rattle.c_tokens.specs.declared.token.Kind.{Kind}
 use Rattle.c_tokens.specs.declared.token.Kind.TheVariants.{Mark}
 use Rattle.c_tokens.specs.declared.token.Mark.{Mark as MarkName}
 use Rattle.c_tokens.specs.declared.token.Mark.TheVariants as mark
 use Rattle.c_tree.specs.Marks.{Kinds}
-use Rattle.c_expr.specs.inner.Parser.{is_mark, run, Parser, Outcome, Tall, and_then, pure, sees, after, expect, separated_from, separated}
+use Rattle.c_expr.specs.inner.Parser.{is_mark, run, Parser, Tall, and_then, pure, sees}
 use Rattle.c_expr.specs.inner.Readers.{begins_spec, opened}
 use Rattle.c_expr.specs.Theorems.{ReadsOnly}
-use Rattle.c_expr.specs.inner.ParserLemmas.{sees_true, after_is, after_other, expect_some, found_both, ReadsPrefix, both_answer}
+use Rattle.c_expr.specs.inner.ParserLemmas.{sees_true, found_both, ReadsPrefix, both_answer}
 
 -- an answer of a chain whose first reader reads trees
 pub tree_answer : {A B C : Type 0} {R : ℕ → Kinds → A → Type 0} {depth : ℕ} (p : Parser (Tall A)) → ReadsOnly p depth R → (ts : Kinds) (f : Tall A → Parser B) (q : B × Kinds) → and_then (p ts) f ≡ Some q
