@@ -1,13 +1,11 @@
 -- What answers of the links of a chain come to, and the words that come in a chain.
 use Rattle.std.proofs.Common.{◌≡◌, ℕ, Bool, true, false, if◌then◌else◌, [], ◌∷◌, Some, None, refl, ap, subst, ◌∙◌}
-use denote.Enum.Bare.{true_same}
-use Rattle.c_tokens.specs.contracts.token.Keyword.{the_type as the_keywords}
 use Rattle.c_tokens.specs.declared.token.Keyword.{Keyword}
 use Rattle.c_tokens.specs.declared.token.Kind.TheVariants.{Word, Name, Number, Text, Mark}
 use Rattle.c_tokens.specs.declared.token.Mark.{Mark as MarkName}
 use Rattle.c_tree.specs.Marks.{Kinds}
-use Rattle.c_expr.specs.inner.Parser.{Parser, Outcome, Tall, and_then, same_word, sees, behind, after, expect}
-use Rattle.c_expr.specs.inner.ParserLemmas.{same_word_true, sees_is, sees_true, after_is, after_other, expect_is, expect_some, both_answer, same_word_is}
+use Rattle.c_expr.specs.inner.Parser.{Parser, Outcome, Tall, and_then, sees, behind, after, expect}
+use Rattle.c_expr.specs.inner.ParserLemmas.{same_word_true, sees_is, after_is, after_other, expect_is, both_answer, same_word_is}
 use Rattle.c_parser.specs.inner.Readers.{sees_word, after_word, expect_word}
 
 -- an answer of two readers, of which the first reads trees, is one of the first, and of the second behind it

@@ -18,7 +18,7 @@ use Rattle.c_tree.specs.Grammar.{SpecReads, DeclaratorsRead, DeclaratorReads}
 use Rattle.c_tree.specs.Statements.{InitReads, StmtReads, BlockReads, ItemReads}
 use Rattle.c_expr.specs.inner.Parser.{Parser, Outcome, Tall, same_mark, sees}
 use Rattle.c_expr.specs.inner.Readers.{Readers, readers}
-use Rattle.c_expr.specs.Theorems.{AreComplete, ReadersAreComplete, Takes, Stops, Lacks, LacksSuffix, ExpressionLaws, FirstTokens}
+use Rattle.c_expr.specs.Theorems.{AreComplete, Takes, Stops, Lacks, LacksSuffix, ExpressionLaws, FirstTokens}
 use Rattle.c_expr.specs.FirstTokens.{Begins, CanBeginSpec}
 use Rattle.c_expr.specs.inner.FirstTokensLemmas.{Begins-append}
 use Rattle.c_parser.specs.inner.Readers.{sees_word, decl_of, types_from, types, type_definition, item_of, untyped, item_over, init, stmt, item}

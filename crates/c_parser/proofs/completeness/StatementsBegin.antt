@@ -19,7 +19,7 @@ use Rattle.c_expr.specs.inner.Readers.{begins_spec, continuation_of}
 use Rattle.c_expr.specs.Theorems.{Lacks, LacksSuffix, Stops, FirstTokens}
 use Rattle.c_expr.specs.FirstTokens.{Begins, mark_begins_expression, word_begins_spec, CanBeginExpression, CanBeginSpec}
 use Rattle.c_expr.specs.inner.FirstTokensLemmas.{Begins-append, Begins-same, OpensNothing, brace_opens_nothing, declarator_lacks, expression_lacks, other_mark, stops_at}
-use Rattle.c_expr.specs.inner.ParserLemmas.{same_mark_true, same_word_true}
+use Rattle.c_expr.specs.inner.ParserLemmas.{same_word_true}
 use Rattle.c_parser.specs.inner.Readers.{sees_word}
 
 -- ---- words

@@ -15,7 +15,7 @@ use Rattle.c_tree.specs.Grammar.{SpecReads, DeclaratorsRead, DeclaratorReads}
 use Rattle.c_tree.specs.Statements.{InitReads, ItemReads}
 use Rattle.c_expr.specs.inner.Parser.{Parser, Tall, sees}
 use Rattle.c_expr.specs.inner.Readers.{Readers, readers}
-use Rattle.c_expr.specs.Theorems.{ReadsOnly, AreSound, ReadersAreSound, ExpressionLaws}
+use Rattle.c_expr.specs.Theorems.{ReadsOnly, AreSound, ExpressionLaws}
 use Rattle.c_parser.specs.inner.Readers.{decl_of, block, types_from, types, type_definition, item_of, untyped, item_over, init, stmt, item}
 use Rattle.c_expr.specs.inner.ParserLemmas.{both_answer, plain_holds, tested, eaten, mark_answer, join}
 use Rattle.c_parser.proofs.ChainLemmas.{tall_answered, word_eaten}

@@ -1,4 +1,4 @@
-use Rattle.std.proofs.Common.{◌≡◌, sym, subst}
+use Rattle.std.proofs.Common.{◌≡◌, subst}
 use Rattle.c_tree.specs.Marks.{kinds_of}
 use Rattle.c_tree.specs.Statements.{SourceReads}
 use Rattle.c_parser.proofs.theorems.texts_have_one_tree.Goals as goal
