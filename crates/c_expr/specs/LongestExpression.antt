@@ -13,8 +13,17 @@ pub record IsLongestExpression (names : List (List ℕ)) (depth : ℕ) (ts : Kin
   pub height : ℕ
   pub deep : height ≤ depth
   pub read : ExprReads names 0 height prefix e
-  pub longest : (other behind : Kinds) (h : ℕ) (f : Expr) → ts ≡ other ++ behind → h ≤ depth → ExprReads names 0 h other f → length other ≤ len
+  pub longest : (other behind : Kinds) (h : ℕ) (f : Expr)
+      → ts ≡ other ++ behind
+      → h ≤ depth
+      → ExprReads names 0 h other f
+      → length other ≤ len
 
 -- no prefix of the tokens is an expression of at most this depth
 abbrev pub BeginsNoExpression : List (List ℕ) → ℕ → Kinds → Type 0
-BeginsNoExpression names depth ts = (prefix rest : Kinds) (h : ℕ) (e : Expr) → ts ≡ prefix ++ rest → h ≤ depth → ExprReads names 0 h prefix e → ⊥
+BeginsNoExpression names depth ts =
+    (prefix rest : Kinds) (h : ℕ) (e : Expr)
+    → ts ≡ prefix ++ rest
+    → h ≤ depth
+    → ExprReads names 0 h prefix e
+    → ⊥

@@ -31,7 +31,7 @@ where
         requires some { 0 < self.now.depth }
         requires nests { Nests self.now.depth (F.pre self.now.expr) (F.post self.now.expr) (G.pre self.now.params) (G.post self.now.params) }
         ensures reads { Reads (reader.nested_abstract self.now.names.now (below self.now.names.now self.now.depth) stars tokens.old) result tokens.new }
-        ensures tall { IfOk result (λ a. a.1 ≤ self.now.depth) }
+        ensures height { IfOk result (λ a. a.1 ≤ self.now.depth) }
     {
         tokens.expect(Mark::LeftParenthesis)?;
         let (inside, height) = self.inner().abstract_declarator(tokens)?;
@@ -55,7 +55,7 @@ where
         requires some { 0 < self.now.depth }
         requires nests { Nests self.now.depth (F.pre self.now.expr) (F.post self.now.expr) (G.pre self.now.params) (G.post self.now.params) }
         ensures reads { Reads (reader.starred self.now.names.now (below self.now.names.now self.now.depth) tokens.old) result tokens.new }
-        ensures tall { IfOk result (λ a. a.1 ≤ self.now.depth) }
+        ensures height { IfOk result (λ a. a.1 ≤ self.now.depth) }
     {
         let stars = tokens.run(Mark::Star);
         if tokens.sees(Mark::LeftParenthesis) && tokens.sees_behind(Mark::Star) {
@@ -82,7 +82,7 @@ where
         requires some { 0 < self.now.depth }
         requires nests { Nests self.now.depth (F.pre self.now.expr) (F.post self.now.expr) (G.pre self.now.params) (G.post self.now.params) }
         ensures reads { Reads (reader.bracketed_abstract self.now.names.now (below self.now.names.now self.now.depth) (self.now.depth - 1) tokens.old) result tokens.new }
-        ensures tall { IfOk result (λ a. a.1 ≤ self.now.depth) }
+        ensures height { IfOk result (λ a. a.1 ≤ self.now.depth) }
     {
         tokens.expect(Mark::LeftParenthesis)?;
         let (inside, height) = self.starred(tokens)?;
@@ -113,7 +113,7 @@ where
     ) -> Result<(AbstractDeclarator, usize), Failure>
         requires nests { Nests self.now.depth (F.pre self.now.expr) (F.post self.now.expr) (G.pre self.now.params) (G.post self.now.params) }
         ensures reads { Reads ((readers self.now.names.now self.now.depth).abstract tokens.old) result tokens.new }
-        ensures tall { IfOk result (λ a. a.1 ≤ self.now.depth) }
+        ensures height { IfOk result (λ a. a.1 ≤ self.now.depth) }
     {
         if self.depth == 0 {
             return Err(Failure::Mismatch);

@@ -28,7 +28,7 @@ where
     #[tactic(auto, unfolding(crate::specs::inner::Readers::named))]
     fn named(&self, tokens: &mut Cursor<'_>) -> Result<Bracketed, Failure>
         ensures reads { Reads (reader.named self.now.names.now (below self.now.names.now self.now.depth) tokens.old) result tokens.new }
-        ensures tall { IfOk result (λ b. b.height ≤ 0) }
+        ensures height { IfOk result (λ b. b.height ≤ 0) }
     {
         let name = free_name(self.alloc, self.names, tokens)?;
         Ok(Bracketed {
@@ -49,7 +49,7 @@ where
         requires nests { Nests self.now.depth (F.pre self.now.expr) (F.post self.now.expr) (G.pre self.now.params) (G.post self.now.params) }
         requires low { inside.height ≤ 1 + (self.now.depth - 1) }
         ensures reads { Reads (reader.finished self.now.names.now (below self.now.names.now self.now.depth) (self.now.depth - 1) stars inside tokens.old) result tokens.new }
-        ensures tall { IfOk result (λ b. b.height ≤ 1 + (self.now.depth - 1)) }
+        ensures height { IfOk result (λ b. b.height ≤ 1 + (self.now.depth - 1)) }
     {
         let (suffixes, suffix_height) = self.suffixes(tokens)?;
         if stars == 0 && suffixes.is_empty() {
@@ -72,7 +72,7 @@ where
         requires nests { Nests self.now.depth (F.pre self.now.expr) (F.post self.now.expr) (G.pre self.now.params) (G.post self.now.params) }
         requires low { inside.height ≤ 1 + (self.now.depth - 1) }
         ensures reads { Reads (reader.closed self.now.names.now (below self.now.names.now self.now.depth) (self.now.depth - 1) count stars inside tokens.old) result tokens.new }
-        ensures tall { IfOk result (λ b. b.height ≤ 1 + (self.now.depth - 1)) }
+        ensures height { IfOk result (λ b. b.height ≤ 1 + (self.now.depth - 1)) }
     {
         let mut its_stars = stars;
         let mut whole = inside;
@@ -93,7 +93,7 @@ where
     fn inner_direct(&self, tokens: &mut Cursor<'_>) -> Result<Bracketed, Failure>
         requires nests { Nests self.now.depth (F.pre self.now.expr) (F.post self.now.expr) (G.pre self.now.params) (G.post self.now.params) }
         ensures reads { Reads ((below self.now.names.now self.now.depth).direct tokens.old) result tokens.new }
-        ensures tall { IfOk result (λ b. b.height ≤ 1 + (self.now.depth - 1)) }
+        ensures height { IfOk result (λ b. b.height ≤ 1 + (self.now.depth - 1)) }
     {
         if self.depth == 0 {
             return Err(Failure::Mismatch);
@@ -106,7 +106,7 @@ where
     fn name_behind(&self, tokens: &mut Cursor<'_>, stars: u32) -> Result<Bracketed, Failure>
         requires nests { Nests self.now.depth (F.pre self.now.expr) (F.post self.now.expr) (G.pre self.now.params) (G.post self.now.params) }
         ensures reads { Reads (reader.direct_behind self.now.names.now (below self.now.names.now self.now.depth) (reader.named self.now.names.now (below self.now.names.now self.now.depth)) stars tokens.old) result tokens.new }
-        ensures tall { IfOk result (λ b. b.height ≤ 1 + (self.now.depth - 1)) }
+        ensures height { IfOk result (λ b. b.height ≤ 1 + (self.now.depth - 1)) }
     {
         if stars == 0 {
             self.named(tokens)
@@ -121,7 +121,7 @@ where
     fn direct(&self, tokens: &mut Cursor<'_>) -> Result<Bracketed, Failure>
         requires nests { Nests self.now.depth (F.pre self.now.expr) (F.post self.now.expr) (G.pre self.now.params) (G.post self.now.params) }
         ensures reads { Reads (reader.direct self.now.names.now (below self.now.names.now self.now.depth) (self.now.depth - 1) tokens.old) result tokens.new }
-        ensures tall { IfOk result (λ b. b.height ≤ 1 + (self.now.depth - 1)) }
+        ensures height { IfOk result (λ b. b.height ≤ 1 + (self.now.depth - 1)) }
     {
         let count = opened(self.names, tokens);
         if count == 0 {
@@ -136,7 +136,7 @@ where
     fn direct_behind(&self, tokens: &mut Cursor<'_>, stars: u32) -> Result<Bracketed, Failure>
         requires nests { Nests self.now.depth (F.pre self.now.expr) (F.post self.now.expr) (G.pre self.now.params) (G.post self.now.params) }
         ensures reads { Reads (reader.direct_behind self.now.names.now (below self.now.names.now self.now.depth) (reader.direct self.now.names.now (below self.now.names.now self.now.depth) (self.now.depth - 1)) stars tokens.old) result tokens.new }
-        ensures tall { IfOk result (λ b. b.height ≤ 1 + (self.now.depth - 1)) }
+        ensures height { IfOk result (λ b. b.height ≤ 1 + (self.now.depth - 1)) }
     {
         if stars == 0 {
             self.direct(tokens)
@@ -150,7 +150,7 @@ where
     pub fn declarator(&self, tokens: &mut Cursor<'_>) -> Result<(Declarator, usize), Failure>
         requires nests { Nests self.now.depth (F.pre self.now.expr) (F.post self.now.expr) (G.pre self.now.params) (G.post self.now.params) }
         ensures reads { Reads ((readers self.now.names.now self.now.depth).declarator tokens.old) result tokens.new }
-        ensures tall { IfOk result (λ d. d.1 ≤ self.now.depth) }
+        ensures height { IfOk result (λ d. d.1 ≤ self.now.depth) }
     {
         if self.depth == 0 {
             return Err(Failure::Mismatch);
@@ -168,7 +168,7 @@ where
     ) -> Result<(Items<Declarator>, usize), Failure>
         requires nests { Nests self.now.depth (F.pre self.now.expr) (F.post self.now.expr) (G.pre self.now.params) (G.post self.now.params) }
         ensures reads { Reads (separated (readers self.now.names.now self.now.depth).declarator tokens.old) result tokens.new }
-        ensures tall { IfOk result (λ ds. ds.1 ≤ self.now.depth) }
+        ensures height { IfOk result (λ ds. ds.1 ≤ self.now.depth) }
     {
         let mut found = Items::new(self.alloc);
         let mut height = 0;

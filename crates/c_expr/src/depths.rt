@@ -22,7 +22,7 @@ pub fn expr(
 ) -> Result<(Expr, usize), Failure>
     requires { depth < 2 ^ 32 }
     ensures reads { Reads ((readers names.now depth).expr least tokens.old) result tokens.new }
-    ensures tall { IfOk result (λ e. e.1 ≤ depth) }
+    ensures height { IfOk result (λ e. e.1 ≤ depth) }
 {
     if depth == 0 {
         return Err(Failure::Mismatch);
@@ -47,7 +47,7 @@ pub fn params(
 ) -> Result<(Params, usize), Failure>
     requires { depth < 2 ^ 32 }
     ensures reads { Reads ((readers names.now depth).params tokens.old) result tokens.new }
-    ensures tall { IfOk result (λ p. p.1 ≤ depth) }
+    ensures height { IfOk result (λ p. p.1 ≤ depth) }
 {
     Grammar {
         alloc,
@@ -68,7 +68,7 @@ pub fn spec(
 ) -> Result<(Spec, usize), Failure>
     requires { depth < 2 ^ 32 }
     ensures reads { Reads ((readers names.now depth).spec true tokens.old) result tokens.new }
-    ensures tall { IfOk result (λ s. s.1 ≤ depth) }
+    ensures height { IfOk result (λ s. s.1 ≤ depth) }
 {
     Grammar {
         alloc,
@@ -89,7 +89,7 @@ pub fn declarator(
 ) -> Result<(Declarator, usize), Failure>
     requires { depth < 2 ^ 32 }
     ensures reads { Reads ((readers names.now depth).declarator tokens.old) result tokens.new }
-    ensures tall { IfOk result (λ d. d.1 ≤ depth) }
+    ensures height { IfOk result (λ d. d.1 ≤ depth) }
 {
     Grammar {
         alloc,

@@ -30,7 +30,7 @@ where
     fn expressions(&self, tokens: &mut Cursor<'_>) -> Result<(Items<Expr>, usize), Failure>
         requires { Nests self.now.depth (F.pre self.now.expr) (F.post self.now.expr) (G.pre self.now.params) (G.post self.now.params) }
         ensures reads { Reads (separated ((below self.now.names.now self.now.depth).expr 0) tokens.old) result tokens.new }
-        ensures tall { IfOk result (λ es. es.1 ≤ self.now.depth - 1) }
+        ensures height { IfOk result (λ es. es.1 ≤ self.now.depth - 1) }
     {
         let mut found = Items::new(self.alloc);
         let mut height = 0;
@@ -50,7 +50,7 @@ where
     fn arguments(&self, tokens: &mut Cursor<'_>) -> Result<(Items<Expr>, usize), Failure>
         requires { Nests self.now.depth (F.pre self.now.expr) (F.post self.now.expr) (G.pre self.now.params) (G.post self.now.params) }
         ensures reads { Reads (reader.arguments self.now.names.now (below self.now.names.now self.now.depth) tokens.old) result tokens.new }
-        ensures tall { IfOk result (λ es. es.1 ≤ self.now.depth - 1) }
+        ensures height { IfOk result (λ es. es.1 ≤ self.now.depth - 1) }
     {
         if tokens.eat(Mark::RightParenthesis) {
             return Ok((Items::new(self.alloc), 0));
@@ -65,7 +65,7 @@ where
     fn index(&self, tokens: &mut Cursor<'_>) -> Result<(Part, usize), Failure>
         requires { Nests self.now.depth (F.pre self.now.expr) (F.post self.now.expr) (G.pre self.now.params) (G.post self.now.params) }
         ensures reads { Reads (reader.index self.now.names.now (below self.now.names.now self.now.depth) tokens.old) result tokens.new }
-        ensures tall { IfOk result (λ p. p.1 ≤ self.now.depth - 1) }
+        ensures height { IfOk result (λ p. p.1 ≤ self.now.depth - 1) }
     {
         let (at, height) = self.inner_boxed(tokens, ASSIGN_LEVEL)?;
         tokens.expect(Mark::RightBracket)?;
@@ -77,7 +77,7 @@ where
     fn arms(&self, tokens: &mut Cursor<'_>) -> Result<(Part, usize), Failure>
         requires { Nests self.now.depth (F.pre self.now.expr) (F.post self.now.expr) (G.pre self.now.params) (G.post self.now.params) }
         ensures reads { Reads (reader.arms self.now.names.now (below self.now.names.now self.now.depth) tokens.old) result tokens.new }
-        ensures tall { IfOk result (λ p. p.1 ≤ self.now.depth - 1) }
+        ensures height { IfOk result (λ p. p.1 ≤ self.now.depth - 1) }
     {
         let (first, first_height) = self.inner_boxed(tokens, ASSIGN_LEVEL)?;
         tokens.expect(Mark::Colon)?;
@@ -93,7 +93,7 @@ where
     fn part(&self, tokens: &mut Cursor<'_>, next: Continuation) -> Result<(Part, usize), Failure>
         requires { Nests self.now.depth (F.pre self.now.expr) (F.post self.now.expr) (G.pre self.now.params) (G.post self.now.params) }
         ensures reads { Reads (reader.part self.now.names.now (below self.now.names.now self.now.depth) next tokens.old) result tokens.new }
-        ensures tall { IfOk result (λ p. p.1 ≤ self.now.depth - 1) }
+        ensures height { IfOk result (λ p. p.1 ≤ self.now.depth - 1) }
     {
         match next {
             Continuation::Index => self.index(tokens),
@@ -153,7 +153,7 @@ where
         requires nests { Nests self.now.depth (F.pre self.now.expr) (F.post self.now.expr) (G.pre self.now.params) (G.post self.now.params) }
         requires low { operand.height ≤ 1 + (self.now.depth - 1) }
         ensures reads { Reads (reader.grow self.now.names.now (below self.now.names.now self.now.depth) (self.now.depth - 1) least operand tokens.old) result tokens.new }
-        ensures tall { IfOk result (λ o. o.height ≤ 1 + (self.now.depth - 1)) }
+        ensures height { IfOk result (λ o. o.height ≤ 1 + (self.now.depth - 1)) }
     {
         let mut whole = operand;
         for _turn in 0..tokens.left() {
@@ -180,7 +180,7 @@ where
         requires nests { Nests self.now.depth (F.pre self.now.expr) (F.post self.now.expr) (G.pre self.now.params) (G.post self.now.params) }
         requires low { operand.height ≤ 1 + (self.now.depth - 1) }
         ensures reads { Reads (in_pair self.now.names.now (below self.now.names.now self.now.depth) (self.now.depth - 1) operand tokens.old) result tokens.new }
-        ensures tall { IfOk result (λ o. o.height ≤ 1 + (self.now.depth - 1)) }
+        ensures height { IfOk result (λ o. o.height ≤ 1 + (self.now.depth - 1)) }
     {
         let whole = self.grow(tokens, ASSIGN_LEVEL, operand)?;
         tokens.expect(Mark::RightParenthesis)?;
@@ -202,7 +202,7 @@ where
         requires nests { Nests self.now.depth (F.pre self.now.expr) (F.post self.now.expr) (G.pre self.now.params) (G.post self.now.params) }
         requires low { operand.height ≤ 1 + (self.now.depth - 1) }
         ensures reads { Reads (reader.close self.now.names.now (below self.now.names.now self.now.depth) (self.now.depth - 1) least pairs operand tokens.old) result tokens.new }
-        ensures tall { IfOk result (λ e. e.1 ≤ 1 + (self.now.depth - 1)) }
+        ensures height { IfOk result (λ e. e.1 ≤ 1 + (self.now.depth - 1)) }
     {
         let mut whole = operand;
         for _pair in 0..pairs {
@@ -221,7 +221,7 @@ where
     fn sizeof(&self, tokens: &mut Cursor<'_>) -> Result<Operand, Failure>
         requires { Nests self.now.depth (F.pre self.now.expr) (F.post self.now.expr) (G.pre self.now.params) (G.post self.now.params) }
         ensures reads { Reads (reader.sizeof self.now.names.now (below self.now.names.now self.now.depth) tokens.old) result tokens.new }
-        ensures tall { IfOk result (λ o. o.height ≤ 1 + (self.now.depth - 1)) }
+        ensures height { IfOk result (λ o. o.height ≤ 1 + (self.now.depth - 1)) }
     {
         if opens_type(self.names, tokens) {
             tokens.expect(Mark::LeftParenthesis)?;
@@ -238,7 +238,7 @@ where
     fn cast(&self, tokens: &mut Cursor<'_>) -> Result<Operand, Failure>
         requires { Nests self.now.depth (F.pre self.now.expr) (F.post self.now.expr) (G.pre self.now.params) (G.post self.now.params) }
         ensures reads { Reads (reader.cast self.now.names.now (below self.now.names.now self.now.depth) tokens.old) result tokens.new }
-        ensures tall { IfOk result (λ o. o.height ≤ 1 + (self.now.depth - 1)) }
+        ensures height { IfOk result (λ o. o.height ≤ 1 + (self.now.depth - 1)) }
     {
         let (word, word_height) = self.inner_type_word(tokens)?;
         tokens.expect(Mark::RightParenthesis)?;
@@ -255,7 +255,7 @@ where
     fn unary_behind(&self, tokens: &mut Cursor<'_>, op: UnaryOperator) -> Result<Operand, Failure>
         requires { Nests self.now.depth (F.pre self.now.expr) (F.post self.now.expr) (G.pre self.now.params) (G.post self.now.params) }
         ensures reads { Reads (reader.unary_behind self.now.names.now (below self.now.names.now self.now.depth) op tokens.old) result tokens.new }
-        ensures tall { IfOk result (λ o. o.height ≤ 1 + (self.now.depth - 1)) }
+        ensures height { IfOk result (λ o. o.height ≤ 1 + (self.now.depth - 1)) }
     {
         let (inside, height) = self.inner_boxed(tokens, CAST_LEVEL)?;
         Ok(Operand::new(UNARY_LEVEL, Expr::Unary(op, inside), 1 + height))
@@ -266,7 +266,7 @@ where
     fn prefixed(&self, tokens: &mut Cursor<'_>, mark: Mark) -> Result<Operand, Failure>
         requires { Nests self.now.depth (F.pre self.now.expr) (F.post self.now.expr) (G.pre self.now.params) (G.post self.now.params) }
         ensures reads { Reads (reader.prefixed self.now.names.now (below self.now.names.now self.now.depth) mark tokens.old) result tokens.new }
-        ensures tall { IfOk result (λ o. o.height ≤ 1 + (self.now.depth - 1)) }
+        ensures height { IfOk result (λ o. o.height ≤ 1 + (self.now.depth - 1)) }
     {
         match mark {
             Mark::LeftParenthesis => self.cast(tokens),
@@ -292,7 +292,7 @@ where
     fn head(&self, tokens: &mut Cursor<'_>) -> Result<Operand, Failure>
         requires { Nests self.now.depth (F.pre self.now.expr) (F.post self.now.expr) (G.pre self.now.params) (G.post self.now.params) }
         ensures reads { Reads (reader.head self.now.names.now (below self.now.names.now self.now.depth) tokens.old) result tokens.new }
-        ensures tall { IfOk result (λ o. o.height ≤ 1 + (self.now.depth - 1)) }
+        ensures height { IfOk result (λ o. o.height ≤ 1 + (self.now.depth - 1)) }
     {
         let Some(kind) = tokens.peek() else {
             return Err(Failure::Mismatch);
@@ -321,7 +321,7 @@ where
     pub fn level(&self, tokens: &mut Cursor<'_>, least: usize) -> Result<(Expr, usize), Failure>
         requires { Nests self.now.depth (F.pre self.now.expr) (F.post self.now.expr) (G.pre self.now.params) (G.post self.now.params) }
         ensures reads { Reads (reader.level self.now.names.now (below self.now.names.now self.now.depth) (self.now.depth - 1) least tokens.old) result tokens.new }
-        ensures tall { IfOk result (λ e. e.1 ≤ 1 + (self.now.depth - 1)) }
+        ensures height { IfOk result (λ e. e.1 ≤ 1 + (self.now.depth - 1)) }
     {
         let pairs = opened(self.names, tokens);
         let first = self.head(tokens)?;

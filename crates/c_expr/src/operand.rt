@@ -114,7 +114,7 @@ pub(crate) fn extended(
     requires low { operand.height < 2 ^ 32 }
     requires part_low { height < 2 ^ 32 }
     ensures is { IfOk result (λ o. o ≡ reader.extended operand (part, height)) }
-    ensures tall { IfOk result (λ o. o.height ≡ 1 + max operand.height height) }
+    ensures height { IfOk result (λ o. o.height ≡ 1 + max operand.height height) }
 {
     let level = part_level(&part);
     let height = 1 + operand.height.max(height);
@@ -127,7 +127,7 @@ pub(crate) fn extended(
 pub(crate) fn bracketed(operand: Operand) -> Operand
     requires { operand.pairs < 2 ^ 32 }
     ensures is { result ≡ reader.bracketed operand }
-    ensures tall { result.height ≡ operand.height }
+    ensures height { result.height ≡ operand.height }
 {
     Operand {
         level: PRIMARY_LEVEL,

@@ -29,7 +29,7 @@ where
     fn member(&self, tokens: &mut Cursor<'_>) -> Result<(MemberDecl, usize), Failure>
         requires nests { Nests self.now.depth (F.pre self.now.expr) (F.post self.now.expr) (G.pre self.now.params) (G.post self.now.params) }
         ensures reads { Reads (reader.member self.now.names.now (below self.now.names.now self.now.depth) tokens.old) result tokens.new }
-        ensures tall { IfOk result (λ m. m.1 < self.now.depth) }
+        ensures height { IfOk result (λ m. m.1 < self.now.depth) }
     {
         if self.depth == 0 {
             return Err(Failure::Mismatch);
@@ -46,7 +46,7 @@ where
     fn members(&self, tokens: &mut Cursor<'_>) -> Result<(Items<MemberDecl>, usize), Failure>
         requires nests { Nests self.now.depth (F.pre self.now.expr) (F.post self.now.expr) (G.pre self.now.params) (G.post self.now.params) }
         ensures reads { Reads (reader.members self.now.names.now (below self.now.names.now self.now.depth) tokens.old) result tokens.new }
-        ensures tall { IfOk result (λ ms. ms.1 < self.now.depth) }
+        ensures height { IfOk result (λ ms. ms.1 < self.now.depth) }
     {
         let mut found = Items::new(self.alloc);
         let mut height = 0;
@@ -67,7 +67,7 @@ where
     fn struct_body(&self, tokens: &mut Cursor<'_>, tag: Name) -> Result<(Spec, usize), Failure>
         requires nests { Nests self.now.depth (F.pre self.now.expr) (F.post self.now.expr) (G.pre self.now.params) (G.post self.now.params) }
         ensures reads { Reads (reader.struct_body self.now.names.now (below self.now.names.now self.now.depth) tag tokens.old) result tokens.new }
-        ensures tall { IfOk result (λ s. s.1 ≤ self.now.depth) }
+        ensures height { IfOk result (λ s. s.1 ≤ self.now.depth) }
     {
         tokens.expect(Mark::LeftBrace)?;
         let (members, height) = self.members(tokens)?;
@@ -79,7 +79,7 @@ where
     fn struct_spec(&self, tokens: &mut Cursor<'_>, bodies: bool) -> Result<(Spec, usize), Failure>
         requires nests { Nests self.now.depth (F.pre self.now.expr) (F.post self.now.expr) (G.pre self.now.params) (G.post self.now.params) }
         ensures reads { Reads (reader.«struct» self.now.names.now (below self.now.names.now self.now.depth) bodies tokens.old) result tokens.new }
-        ensures tall { IfOk result (λ s. s.1 ≤ self.now.depth) }
+        ensures height { IfOk result (λ s. s.1 ≤ self.now.depth) }
     {
         let tag = free_name(self.alloc, self.names, tokens)?;
         if bodies && tokens.sees(Mark::LeftBrace) {
@@ -95,7 +95,7 @@ where
     pub fn spec(&self, tokens: &mut Cursor<'_>, bodies: bool) -> Result<(Spec, usize), Failure>
         requires nests { Nests self.now.depth (F.pre self.now.expr) (F.post self.now.expr) (G.pre self.now.params) (G.post self.now.params) }
         ensures reads { Reads ((readers self.now.names.now self.now.depth).spec bodies tokens.old) result tokens.new }
-        ensures tall { IfOk result (λ s. s.1 ≤ self.now.depth) }
+        ensures height { IfOk result (λ s. s.1 ≤ self.now.depth) }
     {
         let Some(kind) = tokens.peek() else {
             return Err(Failure::Mismatch);
@@ -121,7 +121,7 @@ where
     fn type_word(&self, tokens: &mut Cursor<'_>) -> Result<(TypeWord, usize), Failure>
         requires nests { Nests self.now.depth (F.pre self.now.expr) (F.post self.now.expr) (G.pre self.now.params) (G.post self.now.params) }
         ensures reads { Reads ((readers self.now.names.now self.now.depth).type_word tokens.old) result tokens.new }
-        ensures tall { IfOk result (λ t. t.1 ≤ self.now.depth) }
+        ensures height { IfOk result (λ t. t.1 ≤ self.now.depth) }
     {
         if self.depth == 0 {
             return Err(Failure::Mismatch);
@@ -139,7 +139,7 @@ where
     ) -> Result<(Boxed<TypeWord>, usize), Failure>
         requires { Nests self.now.depth (F.pre self.now.expr) (F.post self.now.expr) (G.pre self.now.params) (G.post self.now.params) }
         ensures reads { Reads ((below self.now.names.now self.now.depth).type_word tokens.old) result tokens.new }
-        ensures tall { IfOk result (λ e. e.1 ≤ self.now.depth - 1) }
+        ensures height { IfOk result (λ e. e.1 ≤ self.now.depth - 1) }
     {
         if self.depth == 0 {
             return Err(Failure::Mismatch);
@@ -153,7 +153,7 @@ where
     fn param(&self, tokens: &mut Cursor<'_>) -> Result<(Param, usize), Failure>
         requires nests { Nests self.now.depth (F.pre self.now.expr) (F.post self.now.expr) (G.pre self.now.params) (G.post self.now.params) }
         ensures reads { Reads (reader.param self.now.names.now (readers self.now.names.now self.now.depth).spec (readers self.now.names.now self.now.depth).declarator (readers self.now.names.now self.now.depth).abstract tokens.old) result tokens.new }
-        ensures tall { IfOk result (λ p. p.1 ≤ self.now.depth) }
+        ensures height { IfOk result (λ p. p.1 ≤ self.now.depth) }
     {
         let (spec, spec_height) = self.spec(tokens, true)?;
         if looks_named(self.names, tokens) {
@@ -169,7 +169,7 @@ where
     fn param_list(&self, tokens: &mut Cursor<'_>) -> Result<(Items<Param>, usize), Failure>
         requires nests { Nests self.now.depth (F.pre self.now.expr) (F.post self.now.expr) (G.pre self.now.params) (G.post self.now.params) }
         ensures reads { Reads (separated (reader.param self.now.names.now (readers self.now.names.now self.now.depth).spec (readers self.now.names.now self.now.depth).declarator (readers self.now.names.now self.now.depth).abstract) tokens.old) result tokens.new }
-        ensures tall { IfOk result (λ ps. ps.1 ≤ self.now.depth) }
+        ensures height { IfOk result (λ ps. ps.1 ≤ self.now.depth) }
     {
         let mut found = Items::new(self.alloc);
         let mut height = 0;
@@ -200,7 +200,7 @@ where
     pub fn parameters(&self, tokens: &mut Cursor<'_>) -> Result<(Params, usize), Failure>
         requires nests { Nests self.now.depth (F.pre self.now.expr) (F.post self.now.expr) (G.pre self.now.params) (G.post self.now.params) }
         ensures reads { Reads ((readers self.now.names.now self.now.depth).params tokens.old) result tokens.new }
-        ensures tall { IfOk result (λ p. p.1 ≤ self.now.depth) }
+        ensures height { IfOk result (λ p. p.1 ≤ self.now.depth) }
     {
         if tokens.sees(Mark::RightParenthesis) {
             return Ok((Params::Nothing, 0));

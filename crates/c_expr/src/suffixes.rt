@@ -25,7 +25,7 @@ where
     fn bound(&self, tokens: &mut Cursor<'_>) -> Result<(Suffix, usize), Failure>
         requires { Nests self.now.depth (F.pre self.now.expr) (F.post self.now.expr) (G.pre self.now.params) (G.post self.now.params) }
         ensures reads { Reads (reader.bound self.now.names.now (below self.now.names.now self.now.depth) tokens.old) result tokens.new }
-        ensures tall { IfOk result (λ s. s.1 ≤ self.now.depth - 1) }
+        ensures height { IfOk result (λ s. s.1 ≤ self.now.depth - 1) }
     {
         if tokens.eat(Mark::RightBracket) {
             return Ok((Suffix::Array(None), 0));
@@ -40,7 +40,7 @@ where
     fn suffix(&self, tokens: &mut Cursor<'_>) -> Result<(Suffix, usize), Failure>
         requires { Nests self.now.depth (F.pre self.now.expr) (F.post self.now.expr) (G.pre self.now.params) (G.post self.now.params) }
         ensures reads { Reads (reader.suffix self.now.names.now (below self.now.names.now self.now.depth) tokens.old) result tokens.new }
-        ensures tall { IfOk result (λ s. s.1 ≤ self.now.depth - 1) }
+        ensures height { IfOk result (λ s. s.1 ≤ self.now.depth - 1) }
     {
         if tokens.eat(Mark::LeftBracket) {
             return self.bound(tokens);
@@ -55,7 +55,7 @@ where
     pub fn suffixes(&self, tokens: &mut Cursor<'_>) -> Result<(Items<Suffix>, usize), Failure>
         requires { Nests self.now.depth (F.pre self.now.expr) (F.post self.now.expr) (G.pre self.now.params) (G.post self.now.params) }
         ensures reads { Reads (reader.suffixes self.now.names.now (below self.now.names.now self.now.depth) tokens.old) result tokens.new }
-        ensures tall { IfOk result (λ ss. ss.1 ≤ self.now.depth - 1) }
+        ensures height { IfOk result (λ ss. ss.1 ≤ self.now.depth - 1) }
     {
         let mut found = Items::new(self.alloc);
         let mut height = 0;

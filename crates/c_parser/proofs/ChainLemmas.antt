@@ -4,13 +4,13 @@ use Rattle.c_tokens.specs.declared.token.Keyword.{Keyword}
 use Rattle.c_tokens.specs.declared.token.Kind.TheVariants.{Word, Name, Number, Text, Mark}
 use Rattle.c_tokens.specs.declared.token.Mark.{Mark as MarkName}
 use Rattle.c_tree.specs.Marks.{Kinds}
-use Rattle.c_expr.specs.inner.Parser.{Parser, Outcome, Tall, and_then, sees, behind, after, expect}
+use Rattle.c_expr.specs.inner.Parser.{Parser, Outcome, WithHeight, and_then, sees, behind, after, expect}
 use Rattle.c_expr.specs.inner.ParserLemmas.{same_word_true, sees_is, after_is, after_other, expect_is, both_answer, same_word_is}
 use Rattle.c_parser.specs.inner.Readers.{sees_word, after_word, expect_word}
 
 -- an answer of two readers, of which the first reads trees, is one of the first, and of the second behind it
-pub tall_answered : {A B C : Type 0} (o : Outcome (Tall A)) (f : Tall A → Parser B) (q : B × Kinds) → and_then o f ≡ Some q → ((x : A) (h : ℕ) (ks : Kinds) → o ≡ Some ((x, h), ks) → f (x, h) ks ≡ Some q → C) → C
-tall_answered o f q is go = both_answer o f q is (λ x ks. go x.0 x.1 ks)
+pub tree_answered : {A B C : Type 0} (o : Outcome (WithHeight A)) (f : WithHeight A → Parser B) (q : B × Kinds) → and_then o f ≡ Some q → ((x : A) (h : ℕ) (ks : Kinds) → o ≡ Some ((x, h), ks) → f (x, h) ks ≡ Some q → C) → C
+tree_answered o f q is go = both_answer o f q is (λ x ks. go x.0 x.1 ks)
 
 -- ---- what answers come to
 

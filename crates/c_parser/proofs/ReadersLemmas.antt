@@ -4,12 +4,12 @@ use Rattle.c_tokens.specs.declared.token.Mark.TheVariants as mark
 use Rattle.c_tree.specs.declared.statement.Init.{Init}
 use Rattle.c_tree.specs.declared.statement.Init.TheVariants as init_as
 use Rattle.c_tree.specs.Marks.{Kinds, assign_level}
-use Rattle.c_expr.specs.inner.Parser.{Outcome, Tall, and_then, pure, sees, after}
+use Rattle.c_expr.specs.inner.Parser.{Outcome, WithHeight, and_then, pure, sees, after}
 use Rattle.c_expr.specs.inner.Readers.{readers}
 use Rattle.c_parser.specs.inner.Readers.{stmt, stmt_over, of_depth, init, init_over, braces, inits_from}
 
 -- initialisers in braces are one
-abbrev pub braced : Outcome (Tall (List Init)) → Outcome (Tall Init)
+abbrev pub braced : Outcome (WithHeight (List Init)) → Outcome (WithHeight Init)
 braced o = and_then o (λ parts. pure (init_as.Braces parts.0, 1 + parts.1))
 
 pub init_zero : (names : List (List ℕ)) (depth : ℕ) (ts : Kinds) → depth ≡ 0 → init names depth ts ≡ None

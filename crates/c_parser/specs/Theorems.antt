@@ -8,8 +8,14 @@ use Rattle.c_tree.specs.Statements.{ItemReads, SourceReads, IsSyntaxRefusal}
 
 -- whatever follows, the tokens begin with one item at most
 abbrev pub ItemsAreToldApart : Type 0
-ItemsAreToldApart = (names : List (List ℕ)) (g h : ℕ) (new more : List (List ℕ)) (ts us rest others : Kinds) (i j : Item) → g ≤ greatest_depth → h ≤ greatest_depth
-    → ItemReads names g new ts i → ItemReads names h more us j → ts ++ rest ≡ us ++ others → (i ≡ j) × (new ≡ more) × (ts ≡ us)
+ItemsAreToldApart =
+    (names : List (List ℕ)) (g h : ℕ) (new more : List (List ℕ)) (ts us rest others : Kinds) (i j : Item)
+    → g ≤ greatest_depth
+    → h ≤ greatest_depth
+    → ItemReads names g new ts i
+    → ItemReads names h more us j
+    → ts ++ rest ≡ us ++ others
+    → (i ≡ j) × (new ≡ more) × (ts ≡ us)
 
 abbrev pub SourcesHaveOneTree : Type 0
 SourcesHaveOneTree = (ts : Kinds) (a b : Source) → SourceReads ts a → SourceReads ts b → a ≡ b
@@ -20,4 +26,7 @@ TextsHaveOneTree = (text : List ℕ) (a b : Source) → IsTextOf a text → IsTe
 
 -- a refusal stands behind one number of items, and no source has the tokens
 abbrev pub RefusalsAreCertain : Type 0
-RefusalsAreCertain = (ts : Kinds) (count : ℕ) → IsSyntaxRefusal ts count → ((other : ℕ) → IsSyntaxRefusal ts other → other ≡ count) × ((source : Source) → SourceReads ts source → ⊥)
+RefusalsAreCertain =
+    (ts : Kinds) (count : ℕ)
+    → IsSyntaxRefusal ts count
+    → ((other : ℕ) → IsSyntaxRefusal ts other → other ≡ count) × ((source : Source) → SourceReads ts source → ⊥)

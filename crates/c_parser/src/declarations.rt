@@ -24,7 +24,7 @@ fn full_expr(
 ) -> Result<(FullExpr, usize), Failure>
     requires { depth < 2 ^ 31 }
     ensures reads { Reads (reader.full_expr names.now (readers names.now depth) tokens.old) result tokens.new }
-    ensures tall { IfOk result (λ e. e.1 ≤ depth) }
+    ensures height { IfOk result (λ e. e.1 ≤ depth) }
 {
     let (expr, height) = expr(alloc, names, tokens, depth, ASSIGN_LEVEL)?;
     let expr = Boxed::new(alloc, expr)?;
@@ -42,7 +42,7 @@ pub(crate) fn option_to(
 ) -> Result<(Option<FullExpr>, usize), Failure>
     requires { depth < 2 ^ 31 }
     ensures reads { Reads (reader.option_to names.now (readers names.now depth) mark tokens.old) result tokens.new }
-    ensures tall { IfOk result (λ o. o.1 ≤ depth) }
+    ensures height { IfOk result (λ o. o.1 ≤ depth) }
 {
     if tokens.eat(mark) {
         return Ok((None, 0));
@@ -62,7 +62,7 @@ pub(crate) fn for_tests(
 ) -> Result<((Option<FullExpr>, Option<FullExpr>), usize), Failure>
     requires { depth < 2 ^ 31 }
     ensures reads { Reads (reader.for_tests names.now (readers names.now depth) tokens.old) result tokens.new }
-    ensures tall { IfOk result (λ c. c.1 ≤ depth) }
+    ensures height { IfOk result (λ c. c.1 ≤ depth) }
 {
     let (test, height) = option_to(alloc, names, tokens, depth, Mark::Semicolon)?;
     let (step, step_height) = option_to(alloc, names, tokens, depth, Mark::RightParenthesis)?;
@@ -79,7 +79,7 @@ pub(crate) fn condition(
 ) -> Result<(FullExpr, usize), Failure>
     requires { depth < 2 ^ 31 }
     ensures reads { Reads (reader.condition names.now (readers names.now depth) tokens.old) result tokens.new }
-    ensures tall { IfOk result (λ c. c.1 ≤ depth) }
+    ensures height { IfOk result (λ c. c.1 ≤ depth) }
 {
     tokens.expect(Mark::LeftParenthesis)?;
     let read = full_expr(alloc, names, tokens, depth)?;
@@ -96,7 +96,7 @@ pub(crate) fn init(
 ) -> Result<(Init, usize), Failure>
     requires { depth < 2 ^ 31 }
     ensures reads { Reads (reader.init names.now depth tokens.old) result tokens.new }
-    ensures tall { IfOk result (λ i. i.1 ≤ depth) }
+    ensures height { IfOk result (λ i. i.1 ≤ depth) }
 {
     if depth == 0 {
         return Err(Failure::Mismatch);
@@ -134,7 +134,7 @@ fn with_init(
     requires few { depth < 2 ^ 31 }
     requires low { declarator.1 ≤ depth }
     ensures reads { Reads (reader.with_init names.now (readers names.now depth) (reader.init names.now depth) declarator tokens.old) result tokens.new }
-    ensures tall { IfOk result (λ d. d.1 ≤ depth) }
+    ensures height { IfOk result (λ d. d.1 ≤ depth) }
 {
     let (declarator, height) = declarator;
     if !tokens.eat(Mark::Assign) {
@@ -163,7 +163,7 @@ fn declared(
     requires few { depth < 2 ^ 31 }
     requires low { first.1 ≤ depth }
     ensures reads { Reads (reader.declared names.now (readers names.now depth) (reader.init names.now depth) first tokens.old) result tokens.new }
-    ensures tall { IfOk result (λ ds. ds.1 ≤ depth) }
+    ensures height { IfOk result (λ ds. ds.1 ≤ depth) }
 {
     let mut found = Items::new(alloc);
     let mut height = 0;
@@ -194,7 +194,7 @@ pub(crate) fn decl_of(
     requires low { spec.1 ≤ depth }
     requires first_low { first.1 ≤ depth }
     ensures reads { Reads (reader.decl_of names.now (readers names.now depth) (reader.init names.now depth) spec first tokens.old) result tokens.new }
-    ensures tall { IfOk result (λ d. d.1 ≤ depth) }
+    ensures height { IfOk result (λ d. d.1 ≤ depth) }
 {
     let (declarators, height) = declared(alloc, names, tokens, depth, first)?;
     tokens.expect(Mark::Semicolon)?;
@@ -212,7 +212,7 @@ pub(crate) fn decl(
 ) -> Result<(Decl, usize), Failure>
     requires { depth < 2 ^ 31 }
     ensures reads { Reads (reader.decl names.now (readers names.now depth) (reader.init names.now depth) tokens.old) result tokens.new }
-    ensures tall { IfOk result (λ d. d.1 ≤ depth) }
+    ensures height { IfOk result (λ d. d.1 ≤ depth) }
 {
     let (spec, height) = spec(alloc, names, tokens, depth)?;
     if tokens.eat(Mark::Semicolon) {
@@ -233,7 +233,7 @@ pub(crate) fn for_init(
 ) -> Result<(ForInit, usize), Failure>
     requires { depth < 2 ^ 31 }
     ensures reads { Reads (reader.for_init names.now (readers names.now depth) (reader.init names.now depth) tokens.old) result tokens.new }
-    ensures tall { IfOk result (λ f. f.1 ≤ depth) }
+    ensures height { IfOk result (λ f. f.1 ≤ depth) }
 {
     if begins_spec(names, tokens) {
         let (decl, height) = decl(alloc, names, tokens, depth)?;

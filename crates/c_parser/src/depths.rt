@@ -18,7 +18,7 @@ pub(crate) fn stmt(
 ) -> Result<(Stmt, usize), Failure>
     requires { depth < 2 ^ 31 }
     ensures reads { Reads (reader.stmt names.now depth tokens.old) result tokens.new }
-    ensures tall { IfOk result (λ s. s.1 ≤ depth) }
+    ensures height { IfOk result (λ s. s.1 ≤ depth) }
 {
     if depth == 0 {
         return Err(Failure::Mismatch);
@@ -41,7 +41,7 @@ pub(crate) fn block(
 ) -> Result<(Block, usize), Failure>
     requires { depth < 2 ^ 31 }
     ensures reads { Reads (reader.of_depth reader.block names.now depth tokens.old) result tokens.new }
-    ensures tall { IfOk result (λ b. b.1 ≤ depth) }
+    ensures height { IfOk result (λ b. b.1 ≤ depth) }
 {
     Rules {
         alloc,

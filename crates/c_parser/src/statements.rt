@@ -32,7 +32,7 @@ pub(crate) struct Rules<'n, F> {
 #[tactic(auto, unfolding(crate::specs::inner::Readers::ended))]
 fn break_behind(tokens: &mut Cursor<'_>) -> Result<(Stmt, usize), Failure>
     ensures reads { Reads (reader.ended Stmt.Break tokens.old) result tokens.new }
-    ensures tall { IfOk result (λ s. s.1 ≡ 1) }
+    ensures height { IfOk result (λ s. s.1 ≡ 1) }
 {
     tokens.expect(Mark::Semicolon)?;
     Ok((Stmt::Break, 1))
@@ -42,7 +42,7 @@ fn break_behind(tokens: &mut Cursor<'_>) -> Result<(Stmt, usize), Failure>
 #[tactic(auto, unfolding(crate::specs::inner::Readers::ended))]
 fn continue_behind(tokens: &mut Cursor<'_>) -> Result<(Stmt, usize), Failure>
     ensures reads { Reads (reader.ended Stmt.Continue tokens.old) result tokens.new }
-    ensures tall { IfOk result (λ s. s.1 ≡ 1) }
+    ensures height { IfOk result (λ s. s.1 ≡ 1) }
 {
     tokens.expect(Mark::Semicolon)?;
     Ok((Stmt::Continue, 1))
@@ -56,7 +56,7 @@ where
     fn inner(&self, tokens: &mut Cursor<'_>) -> Result<(Stmt, usize), Failure>
         requires { Nests self.now.depth (F.pre self.now.stmt) (F.post self.now.stmt) }
         ensures reads { Reads (reader.stmt self.now.names.now self.now.depth tokens.old) result tokens.new }
-        ensures tall { IfOk result (λ s. s.1 ≤ self.now.depth) }
+        ensures height { IfOk result (λ s. s.1 ≤ self.now.depth) }
     {
         (self.stmt)(self.alloc, self.names, tokens, self.depth)
     }
@@ -65,7 +65,7 @@ where
     fn boxed(&self, tokens: &mut Cursor<'_>) -> Result<(Boxed<Stmt>, usize), Failure>
         requires { Nests self.now.depth (F.pre self.now.stmt) (F.post self.now.stmt) }
         ensures reads { Reads (reader.stmt self.now.names.now self.now.depth tokens.old) result tokens.new }
-        ensures tall { IfOk result (λ s. s.1 ≤ self.now.depth) }
+        ensures height { IfOk result (λ s. s.1 ≤ self.now.depth) }
     {
         let (stmt, height) = self.inner(tokens)?;
         Ok((Boxed::new(self.alloc, stmt)?, height))
@@ -75,7 +75,7 @@ where
     fn condition(&self, tokens: &mut Cursor<'_>) -> Result<(FullExpr, usize), Failure>
         requires { self.now.depth < 2 ^ 31 }
         ensures reads { Reads (reader.condition self.now.names.now (readers self.now.names.now self.now.depth) tokens.old) result tokens.new }
-        ensures tall { IfOk result (λ c. c.1 ≤ self.now.depth) }
+        ensures height { IfOk result (λ c. c.1 ≤ self.now.depth) }
     {
         condition(self.alloc, self.names, tokens, self.depth)
     }
@@ -88,7 +88,7 @@ where
     ) -> Result<(Option<FullExpr>, usize), Failure>
         requires { self.now.depth < 2 ^ 31 }
         ensures reads { Reads (reader.option_to self.now.names.now (readers self.now.names.now self.now.depth) mark tokens.old) result tokens.new }
-        ensures tall { IfOk result (λ o. o.1 ≤ self.now.depth) }
+        ensures height { IfOk result (λ o. o.1 ≤ self.now.depth) }
     {
         option_to(self.alloc, self.names, tokens, self.depth, mark)
     }
@@ -98,7 +98,7 @@ where
     fn block_item(&self, tokens: &mut Cursor<'_>) -> Result<(BlockItem, usize), Failure>
         requires { Nests self.now.depth (F.pre self.now.stmt) (F.post self.now.stmt) }
         ensures reads { Reads (of_depth reader.block_item self.now.names.now self.now.depth tokens.old) result tokens.new }
-        ensures tall { IfOk result (λ s. s.1 ≤ self.now.depth) }
+        ensures height { IfOk result (λ s. s.1 ≤ self.now.depth) }
     {
         if begins_spec(self.names, tokens) {
             let (decl, height) = decl(self.alloc, self.names, tokens, self.depth)?;
@@ -112,7 +112,7 @@ where
     fn block_items(&self, tokens: &mut Cursor<'_>) -> Result<(Items<BlockItem>, usize), Failure>
         requires { Nests self.now.depth (F.pre self.now.stmt) (F.post self.now.stmt) }
         ensures reads { Reads (of_depth reader.block_items self.now.names.now self.now.depth tokens.old) result tokens.new }
-        ensures tall { IfOk result (λ s. s.1 ≤ self.now.depth) }
+        ensures height { IfOk result (λ s. s.1 ≤ self.now.depth) }
     {
         let mut found = Items::new(self.alloc);
         let mut height = 0;
@@ -132,7 +132,7 @@ where
     pub fn block(&self, tokens: &mut Cursor<'_>) -> Result<(Block, usize), Failure>
         requires { Nests self.now.depth (F.pre self.now.stmt) (F.post self.now.stmt) }
         ensures reads { Reads (of_depth reader.block self.now.names.now self.now.depth tokens.old) result tokens.new }
-        ensures tall { IfOk result (λ s. s.1 ≤ self.now.depth) }
+        ensures height { IfOk result (λ s. s.1 ≤ self.now.depth) }
     {
         tokens.expect(Mark::LeftBrace)?;
         let (items, height) = self.block_items(tokens)?;
@@ -144,7 +144,7 @@ where
     fn if_behind(&self, tokens: &mut Cursor<'_>) -> Result<(Stmt, usize), Failure>
         requires { Nests self.now.depth (F.pre self.now.stmt) (F.post self.now.stmt) }
         ensures reads { Reads (of_depth reader.if_behind self.now.names.now self.now.depth tokens.old) result tokens.new }
-        ensures tall { IfOk result (λ s. s.1 ≤ 1 + self.now.depth) }
+        ensures height { IfOk result (λ s. s.1 ≤ 1 + self.now.depth) }
     {
         let (test, test_height) = self.condition(tokens)?;
         let (then_branch, then_height) = self.boxed(tokens)?;
@@ -171,7 +171,7 @@ where
     fn while_behind(&self, tokens: &mut Cursor<'_>) -> Result<(Stmt, usize), Failure>
         requires { Nests self.now.depth (F.pre self.now.stmt) (F.post self.now.stmt) }
         ensures reads { Reads (of_depth reader.while_behind self.now.names.now self.now.depth tokens.old) result tokens.new }
-        ensures tall { IfOk result (λ s. s.1 ≤ 1 + self.now.depth) }
+        ensures height { IfOk result (λ s. s.1 ≤ 1 + self.now.depth) }
     {
         let (test, test_height) = self.condition(tokens)?;
         let (body, height) = self.boxed(tokens)?;
@@ -183,7 +183,7 @@ where
     fn do_behind(&self, tokens: &mut Cursor<'_>) -> Result<(Stmt, usize), Failure>
         requires { Nests self.now.depth (F.pre self.now.stmt) (F.post self.now.stmt) }
         ensures reads { Reads (of_depth reader.do_behind self.now.names.now self.now.depth tokens.old) result tokens.new }
-        ensures tall { IfOk result (λ s. s.1 ≤ 1 + self.now.depth) }
+        ensures height { IfOk result (λ s. s.1 ≤ 1 + self.now.depth) }
     {
         let (body, height) = self.boxed(tokens)?;
         expect_word(tokens, Keyword::While)?;
@@ -197,7 +197,7 @@ where
     fn for_behind(&self, tokens: &mut Cursor<'_>) -> Result<(Stmt, usize), Failure>
         requires { Nests self.now.depth (F.pre self.now.stmt) (F.post self.now.stmt) }
         ensures reads { Reads (of_depth reader.for_behind self.now.names.now self.now.depth tokens.old) result tokens.new }
-        ensures tall { IfOk result (λ s. s.1 ≤ 1 + self.now.depth) }
+        ensures height { IfOk result (λ s. s.1 ≤ 1 + self.now.depth) }
     {
         tokens.expect(Mark::LeftParenthesis)?;
         let (init, init_height) = for_init(self.alloc, self.names, tokens, self.depth)?;
@@ -223,7 +223,7 @@ where
     fn return_behind(&self, tokens: &mut Cursor<'_>) -> Result<(Stmt, usize), Failure>
         requires { Nests self.now.depth (F.pre self.now.stmt) (F.post self.now.stmt) }
         ensures reads { Reads (of_depth reader.return_behind self.now.names.now self.now.depth tokens.old) result tokens.new }
-        ensures tall { IfOk result (λ s. s.1 ≤ 1 + self.now.depth) }
+        ensures height { IfOk result (λ s. s.1 ≤ 1 + self.now.depth) }
     {
         let (value, height) = self.option_to(tokens, Mark::Semicolon)?;
         Ok((Stmt::Return(value), 1 + height))
@@ -234,7 +234,7 @@ where
     fn computes(&self, tokens: &mut Cursor<'_>) -> Result<(Stmt, usize), Failure>
         requires { Nests self.now.depth (F.pre self.now.stmt) (F.post self.now.stmt) }
         ensures reads { Reads (of_depth reader.computes self.now.names.now self.now.depth tokens.old) result tokens.new }
-        ensures tall { IfOk result (λ s. s.1 ≤ 1 + self.now.depth) }
+        ensures height { IfOk result (λ s. s.1 ≤ 1 + self.now.depth) }
     {
         let (value, height) = self.option_to(tokens, Mark::Semicolon)?;
         Ok((Stmt::Expr(value), 1 + height))
@@ -245,7 +245,7 @@ where
     pub fn statement(&self, tokens: &mut Cursor<'_>) -> Result<(Stmt, usize), Failure>
         requires { Nests self.now.depth (F.pre self.now.stmt) (F.post self.now.stmt) }
         ensures reads { Reads (of_depth reader.stmt_over self.now.names.now self.now.depth tokens.old) result tokens.new }
-        ensures tall { IfOk result (λ s. s.1 ≤ 1 + self.now.depth) }
+        ensures height { IfOk result (λ s. s.1 ≤ 1 + self.now.depth) }
     {
         let Some(kind) = tokens.peek() else {
             return Err(Failure::Mismatch);

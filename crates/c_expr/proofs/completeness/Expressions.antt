@@ -12,7 +12,7 @@ use Rattle.c_expr.specs.declared.operand.Continuation.TheVariants as goes
 use Rattle.c_expr.specs.declared.operand.Operand.{Operand}
 use Rattle.c_expr.specs.declared.operand.Part.{Part}
 use Rattle.c_expr.specs.declared.operand.Part.TheVariants as part_as
-use Rattle.c_expr.specs.inner.Parser.{Tall}
+use Rattle.c_expr.specs.inner.Parser.{WithHeight}
 use Rattle.c_expr.specs.inner.Readers.{Readers, continuation, whole_level, left_level, part_level, with_part, extended, bracketed, operand, part, close, level_in, level as level_reader}
 use Rattle.c_expr.specs.Theorems.{AreComplete, Takes, Stops}
 use Rattle.c_expr.specs.FirstTokens.{Begins, CanBeginExpression}
@@ -33,9 +33,9 @@ pub record Led (names : List (List ℕ)) (n : ℕ) (r : Readers) (lr h : ℕ) (e
 -- what ends a form: a token of its own, or an operand to the right, by whose answer the whole's goes
 pub data FormEnds (names : List (List ℕ)) (n : ℕ) (r : Readers) (level h : ℕ) (ts : Kinds) (e : Expr) : Type 0 where
   closed : ((least k : ℕ) (rest : Kinds) → least_in k least ≤ level → Leads names r n least k (ts ++ rest) (operand level e h) rest) → FormEnds names n r level h ts e
-  open_right : (right hb : ℕ) (bs : Kinds) (b : Expr) (make : Expr → Expr) (tall : ℕ → ℕ) → right ≤ primary_level → hb ≤ n → ExprReads names right hb bs b → make b ≡ e → tall hb ≡ h
+  open_right : (right hb : ℕ) (bs : Kinds) (b : Expr) (make : Expr → Expr) (height_of : ℕ → ℕ) → right ≤ primary_level → hb ≤ n → ExprReads names right hb bs b → make b ≡ e → height_of hb ≡ h
       → ((rest : Kinds) → Clear level rest → Stops right rest)
-      → ((least k : ℕ) (rest : Kinds) (f : Expr) (g : ℕ) (behind : Kinds) → least_in k least ≤ level → r.expr right (bs ++ rest) ≡ Some ((f, g), behind) → Leads names r n least k (ts ++ rest) (operand level (make f) (tall g)) behind)
+      → ((least k : ℕ) (rest : Kinds) (f : Expr) (g : ℕ) (behind : Kinds) → least_in k least ≤ level → r.expr right (bs ++ rest) ≡ Some ((f, g), behind) → Leads names r n least k (ts ++ rest) (operand level (make f) (height_of g)) behind)
       → FormEnds names n r level h ts e
 
 whole_le_left : (c : Continuation) → whole_level c ≤ left_level c
@@ -49,7 +49,7 @@ whole_le_left (goes.Binary op) = omega arith
 whole_le_left goes.Conditional = omega arith
 whole_le_left (goes.Assign op) = omega arith
 
-extended_is : (o : Operand) (p : Tall Part) (a : Expr) (h : ℕ) → o.expr ≡ a → o.height ≡ h → extended o p ≡ operand (part_level p.0) (with_part a p.0) (1 + max h p.1)
+extended_is : (o : Operand) (p : WithHeight Part) (a : Expr) (h : ℕ) → o.expr ≡ a → o.height ≡ h → extended o p ≡ operand (part_level p.0) (with_part a p.0) (1 + max h p.1)
 unfolding extended
 extended_is o p a h ea eh = rw (ea, eh)
 
@@ -58,7 +58,7 @@ module _ (names : List (List ℕ)) (n : ℕ) (r : Readers) (full : AreComplete n
   Left lr h ts e = (least k : ℕ) (rest : Kinds) → least_in k least ≤ lr → Clear lr rest → Led names n r lr h e least k ts rest
 
   -- an operand, what it goes on with, and the part behind the mark
-  spine : {lr ha : ℕ} {ats : Kinds} {a : Expr} → Left lr ha ats a → ha ≤ n → (c : Continuation) (t : Kind) (ks : Kinds) (p : Tall Part) (behind : Kinds) → continuation (t ∷ ks) ≡ Some c → left_level c ≤ lr
+  spine : {lr ha : ℕ} {ats : Kinds} {a : Expr} → Left lr ha ats a → ha ≤ n → (c : Continuation) (t : Kind) (ks : Kinds) (p : WithHeight Part) (behind : Kinds) → continuation (t ∷ ks) ≡ Some c → left_level c ≤ lr
       → (least k : ℕ) → least_in k least ≤ whole_level c → part names r c ks ≡ Some (p, behind) → Leads names r n least k (ats ++ t ∷ ks) (operand (part_level p.0) (with_part a p.0) (1 + max ha p.1)) behind
   spine {lr} {ha} {ats} {a} left deep c t ks p behind goes fits least k loose is =
       let less = whole_le_left c in
@@ -70,7 +70,7 @@ module _ (names : List (List ℕ)) (n : ℕ) (r : Readers) (full : AreComplete n
   leads_same least k rest same is h = rw (same, is) h
 
   -- a form whose mark stands behind its left operand, and that ends in a token of its own
-  spine_closed : {lr ha : ℕ} {ats : Kinds} {a : Expr} → Left lr ha ats a → ha ≤ n → (c : Continuation) (t : Kind) (ks : Kinds) (p : Tall Part) (level h : ℕ) (ts : Kinds) (e : Expr)
+  spine_closed : {lr ha : ℕ} {ats : Kinds} {a : Expr} → Left lr ha ats a → ha ≤ n → (c : Continuation) (t : Kind) (ks : Kinds) (p : WithHeight Part) (level h : ℕ) (ts : Kinds) (e : Expr)
       → ((rest : Kinds) → continuation (t ∷ (ks ++ rest)) ≡ Some c) → left_level c ≤ lr → level ≡ whole_level c → part_level p.0 ≡ whole_level c → e ≡ with_part a p.0 → h ≡ 1 + max ha p.1 → ts ≡ ats ++ t ∷ ks
       → ((rest : Kinds) → part names r c (ks ++ rest) ≡ Some (p, rest)) → FormEnds names n r level h ts e
   spine_closed {lr} {ha} {ats} {a} left deep c t ks p level h ts e goes fits l pl ei hi is taken = FormEnds.closed (λ least k rest loose.
@@ -78,7 +78,7 @@ module _ (names : List (List ℕ)) (n : ℕ) (r : Readers) (full : AreComplete n
 
   form_taken : {level h : ℕ} {ts : Kinds} {e : Expr} → FormEnds names n r level h ts e → (least k : ℕ) (rest : Kinds) → least_in k least ≤ level → Clear level rest → Leads names r n least k (ts ++ rest) (operand level e h) rest
   form_taken (FormEnds.closed leads) least k rest loose clear = leads least k rest loose
-  form_taken {level} {h} {ts} {e} (FormEnds.open_right right hb bs b make tall rp deep read me he stops leads) least k rest loose clear =
+  form_taken {level} {h} {ts} {e} (FormEnds.open_right right hb bs b make height_of rp deep read me he stops leads) least k rest loose clear =
       subst (λ x. Leads names r n least k (ts ++ rest) (operand level x h) rest) me (subst (λ x. Leads names r n least k (ts ++ rest) (operand level (make b) x) rest) he
       (leads least k rest b hb rest loose (full.expr right hb bs b rp deep read rest (stops rest clear))))
 

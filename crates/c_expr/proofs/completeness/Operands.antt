@@ -11,14 +11,14 @@ use Rattle.c_expr.specs.declared.operand.Continuation.{Continuation}
 use Rattle.c_expr.specs.declared.operand.Continuation.TheVariants as goes
 use Rattle.c_expr.specs.declared.operand.Operand.{Operand}
 use Rattle.c_expr.specs.declared.operand.Part.{Part}
-use Rattle.c_expr.specs.inner.Parser.{Parser, Outcome, Tall, and_then, is_mark, behind}
+use Rattle.c_expr.specs.inner.Parser.{Parser, Outcome, WithHeight, and_then, is_mark, behind}
 use Rattle.c_expr.specs.inner.Readers.{Readers, continuation, whole_level, left_level, takes, taken, going_on, extended, bracketed, part, grown_by, grown_with, grow_from, grow, close, head, level_in, opened, begins_spec}
 use Rattle.c_expr.specs.Theorems.{Stops}
 use Rattle.c_expr.specs.inner.ParserLemmas.{expect_is, same_mark_is}
 
 -- a part gives back no more tokens than it got
 abbrev pub PartShrinks : List (List ℕ) → Readers → Type 0
-PartShrinks names r = (c : Continuation) (ts : Kinds) (p : Tall Part) (rest : Kinds) → part names r c ts ≡ Some (p, rest) → length rest ≤ length ts
+PartShrinks names r = (c : Continuation) (ts : Kinds) (p : WithHeight Part) (rest : Kinds) → part names r c ts ≡ Some (p, rest) → length rest ≤ length ts
 
 -- the loosest level that may stand there, with so many parentheses open
 abbrev pub least_in : ℕ → ℕ → ℕ
@@ -142,13 +142,13 @@ module _ (names : List (List ℕ)) (r : Readers) where
   grow_from_end limit least zero o = refl
   grow_from_end limit least (suc m) o = refl
 
-  enough_by : (more other : Operand → Parser Operand) (o : Operand) (ts : Kinds) (out : Outcome (Tall Part)) → ((p : Tall Part) (rest : Kinds) → out ≡ Some (p, rest) → more (extended o p) rest ≡ other (extended o p) rest)
+  enough_by : (more other : Operand → Parser Operand) (o : Operand) (ts : Kinds) (out : Outcome (WithHeight Part)) → ((p : WithHeight Part) (rest : Kinds) → out ≡ Some (p, rest) → more (extended o p) rest ≡ other (extended o p) rest)
       → grown_by names r o ts more out ≡ grown_by names r o ts other out
   enough_by more other o ts None same = refl
   enough_by more other o ts (Some p) same = same p.0 p.1 refl
 
   enough_with : (more other : Operand → Parser Operand) (o : Operand) (ts : Kinds) (c : Option Continuation)
-      → ((c : Continuation) (p : Tall Part) (rest : Kinds) → part names r c (behind ts) ≡ Some (p, rest) → more (extended o p) rest ≡ other (extended o p) rest)
+      → ((c : Continuation) (p : WithHeight Part) (rest : Kinds) → part names r c (behind ts) ≡ Some (p, rest) → more (extended o p) rest ≡ other (extended o p) rest)
       → grown_with names r o ts more c ≡ grown_with names r o ts other c
   enough_with more other o ts None same = refl
   enough_with more other o ts (Some c) same = enough_by more other o ts (part names r c (behind ts)) (same c)
@@ -172,13 +172,13 @@ module _ (names : List (List ℕ)) (r : Readers) where
   unfolding grow
   grow_stops limit least o ts is = grow_from_stops limit least (length ts) o ts is
 
-  grow_from_steps : (limit least m : ℕ) (o : Operand) (t : Kind) (ks : Kinds) (c : Continuation) (p : Tall Part) (rest : Kinds)
+  grow_from_steps : (limit least m : ℕ) (o : Operand) (t : Kind) (ks : Kinds) (c : Continuation) (p : WithHeight Part) (rest : Kinds)
       → going_on limit least o (t ∷ ks) ≡ Some c → part names r c ks ≡ Some (p, rest) → grow_from names r limit least (suc m) o (t ∷ ks) ≡ grow_from names r limit least m (extended o p) rest
   unfolding grow_from
   grow_from_steps limit least m o t ks c p rest goes is = rw goes (rw is)
 
   -- an operand goes on with a part
-  pub grow_steps : PartShrinks names r → (limit least : ℕ) (o : Operand) (t : Kind) (ks : Kinds) (c : Continuation) (p : Tall Part) (rest : Kinds)
+  pub grow_steps : PartShrinks names r → (limit least : ℕ) (o : Operand) (t : Kind) (ks : Kinds) (c : Continuation) (p : WithHeight Part) (rest : Kinds)
       → going_on limit least o (t ∷ ks) ≡ Some c → part names r c ks ≡ Some (p, rest) → grow names r limit least o (t ∷ ks) ≡ grow names r limit least (extended o p) rest
   unfolding grow
   grow_steps shrinks limit least o t ks c p rest goes is = grow_from_steps limit least (length ks) o t ks c p rest goes is
@@ -192,7 +192,7 @@ module _ (names : List (List ℕ)) (r : Readers) where
   close_same limit least (suc k) o q ts us same = rw same
 
   -- an operand goes on with a part, in open parentheses
-  pub close_steps : PartShrinks names r → (limit least k : ℕ) (o : Operand) (t : Kind) (ks : Kinds) (c : Continuation) (p : Tall Part) (rest : Kinds)
+  pub close_steps : PartShrinks names r → (limit least k : ℕ) (o : Operand) (t : Kind) (ks : Kinds) (c : Continuation) (p : WithHeight Part) (rest : Kinds)
       → going_on limit (least_in k least) o (t ∷ ks) ≡ Some c → part names r c ks ≡ Some (p, rest) → close names r limit least k o (t ∷ ks) ≡ close names r limit least k (extended o p) rest
   close_steps shrinks limit least k o t ks c p rest goes is = close_same limit least k o (extended o p) (t ∷ ks) rest (grow_steps shrinks limit (least_in k least) o t ks c p rest goes is)
 

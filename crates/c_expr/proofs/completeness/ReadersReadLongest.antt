@@ -8,7 +8,7 @@ use Rattle.c_tree.specs.Grammar.{ExprReads}
 use Rattle.c_expr.specs.declared.operand.Continuation.{Continuation}
 use Rattle.c_expr.specs.declared.operand.Operand.{Operand}
 use Rattle.c_expr.specs.declared.operand.Part.{Part}
-use Rattle.c_expr.specs.inner.Parser.{Parser, Outcome, Tall}
+use Rattle.c_expr.specs.inner.Parser.{Parser, Outcome, WithHeight}
 use Rattle.c_expr.specs.inner.Readers.{Readers, readers, continuation, whole_level, takes, taken, going_on, extended, operand, part, grown_by, grown_with, grow_from, grow, close, level}
 use Rattle.c_expr.specs.Theorems.{AreComplete, AreSound, Stops, ReadersAreComplete, ReadersAreSound, ReadersReadLongest, ExpressionsHaveOneTree}
 use Rattle.c_expr.proofs.FormsBegin.{ExprForm-begins}
@@ -49,7 +49,7 @@ going_level limit least o ts c is = taken_level limit least o c (continuation ts
 
 module _ (names : List (List ℕ)) (n : ℕ) (r : Readers) (sound : AreSound names n r) (limit least : ℕ) where
   part_grows : (grown : Operand → Parser Operand) → ((o : Operand) (ts : Kinds) → least ≤ o.level → Grows least ts (grown o ts)) → (o : Operand) (t : Kind) (ks : Kinds) (c : Continuation) → least ≤ o.level → least ≤ whole_level c
-      → (out : Outcome (Tall Part)) → part names r c ks ≡ out → Grows least (t ∷ ks) (grown_by names r o (t ∷ ks) grown out)
+      → (out : Outcome (WithHeight Part)) → part names r c ks ≡ out → Grows least (t ∷ ks) (grown_by names r o (t ∷ ks) grown out)
   unfolding extended
   part_grows grown later o t ks c le fits None is = stays least (t ∷ ks) o le
   part_grows grown later o t ks c le fits (Some p) is =
@@ -96,9 +96,9 @@ form_reaches : {names : List (List ℕ)} {n : ℕ} {r : Readers} {level h : ℕ}
     → (least : ℕ) (ts rest : Kinds) → least ≤ level → ts ≡ inner → Reaches names n r least ts rest
 form_reaches {level = level} {h} {inner} {e} longest (FormEnds.closed leads) least ts rest le is =
     record { o = operand level e h; fits = le; more = []; behind = rest; split = refl; leads = rw is (leads least 0 rest le) }
-form_reaches {level = level} longest (FormEnds.open_right right hb bs b make tall rp deep read me he stops leads) least ts rest le is =
+form_reaches {level = level} longest (FormEnds.open_right right hb bs b make height_of rp deep read me he stops leads) least ts rest le is =
     let a = longest right hb bs rest b rp deep read in
-    record { o = operand level (make a.0) (tall a.1); fits = le; more = a.2; behind = a.3; split = a.4; leads = rw is (leads least 0 rest a.0 a.1 a.3 le a.5) }
+    record { o = operand level (make a.0) (height_of a.1); fits = le; more = a.2; behind = a.3; split = a.4; leads = rw is (leads least 0 rest a.0 a.1 a.3 le a.5) }
 
 module _ (names : List (List ℕ)) (n : ℕ) (r : Readers) (full : AreComplete names n r) (sound : AreSound names n r) (longest : ReadsLongest names n r) where
   reaches : {least h : ℕ} {ts : Kinds} {e : Expr} (rest : Kinds) → ExprReads names least h ts e → least ≤ primary_level → h ≤ suc n → Reaches names n r least ts rest

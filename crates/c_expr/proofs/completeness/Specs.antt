@@ -12,7 +12,7 @@ use Rattle.c_tree.specs.declared.expression.Params.{Params}
 use Rattle.c_tree.specs.declared.expression.Spec.{Spec}
 use Rattle.c_tree.specs.Marks.{Kinds}
 use Rattle.c_tree.specs.Grammar.{SpecReads, MembersRead, DeclaratorsRead, DeclaratorReads, AbstractReads, ParamsRead, ParamListReads, ParamReads}
-use Rattle.c_expr.specs.inner.Parser.{Parser, Tall, Outcome, same_mark, same_word, sees, after, expect}
+use Rattle.c_expr.specs.inner.Parser.{Parser, WithHeight, Outcome, same_mark, same_word, sees, after, expect}
 use Rattle.c_expr.specs.inner.Readers.{Readers, free_name, member, members, members_from, struct_body, struct, spec, param, params, is_void_alone}
 use Rattle.c_expr.specs.Theorems.{Takes, Lacks, Closes, ClosesParenthesis, LacksSuffix, AreComplete}
 use Rattle.c_expr.specs.FirstTokens.{Begins, CanBeginSpec, CanBeginDeclarator}
@@ -81,7 +81,7 @@ MembersRead-begins (MembersRead.more_members h ts ms s xs ds others hs hd ho ss 
 
 -- what was found before, and the greatest height of all
 members_found : (found others : List MemberDecl) (m : MemberDecl) (a b c d : ℕ) (rest : Kinds)
-    → ◌≡◌ {A = Outcome (Tall (List MemberDecl))} (Some (((found ++ m ∷ []) ++ others, max (max a (max b c)) d), rest)) (Some ((found ++ (m ∷ others), max a (max b (max c d))), rest))
+    → ◌≡◌ {A = Outcome (WithHeight (List MemberDecl))} (Some (((found ++ m ∷ []) ++ others, max (max a (max b c)) d), rest)) (Some ((found ++ (m ∷ others), max a (max b (max c d))), rest))
 members_found found others m a b c d rest = let high : max (max a (max b c)) d ≡ max a (max b (max c d)) = omega arith in rw (append_assoc found (m ∷ []) others, high)
 
 members_end : (names : List (List ℕ)) (r : Readers) (fuel : ℕ) (found others : List MemberDecl) (height hs hd ho : ℕ) (ts os rest : Kinds) (m : MemberDecl) → 0 < fuel → ho ≡ 0 → os ≡ [] → others ≡ []
@@ -155,7 +155,7 @@ spec_takes_word names r bodies h ts s deep read = spec_by_members names 0 r (λ 
 -- ---- parameters
 
 -- the parsers of specs, declarators and abstract declarators take those of this depth
-pub record TakeParts (names : List (List ℕ)) (depth : ℕ) (s : Bool → Parser (Tall Spec)) (d : Parser (Tall Declarator)) (a : Parser (Tall AbstractDeclarator)) : Type 0 where
+pub record TakeParts (names : List (List ℕ)) (depth : ℕ) (s : Bool → Parser (WithHeight Spec)) (d : Parser (WithHeight Declarator)) (a : Parser (WithHeight AbstractDeclarator)) : Type 0 where
   pub spec : (bodies : Bool) (h : ℕ) (ts : Kinds) (x : Spec) → h ≤ depth → SpecReads names bodies h ts x → Takes (s bodies) (Lacks mark.LeftBrace) h ts x
   pub declarator : (h : ℕ) (y : List ℕ) (ts : Kinds) (x : Declarator) → h ≤ depth → DeclaratorReads names h y ts x → Takes d LacksSuffix h ts x
   pub abstract : (h : ℕ) (ts : Kinds) (x : AbstractDeclarator) → h ≤ depth → AbstractReads names h ts x → Takes a Closes h ts x
@@ -164,7 +164,7 @@ closes_not_free : (names : List (List ℕ)) (rest : Kinds) → Closes rest → B
 closes_not_free names rest (ks, inl is) = rw is (λ x e. cc)
 closes_not_free names rest (ks, inr is) = rw is (λ x e. cc)
 
-param_takes : {names : List (List ℕ)} {depth : ℕ} {s : Bool → Parser (Tall Spec)} {d : Parser (Tall Declarator)} {a : Parser (Tall AbstractDeclarator)} → TakeParts names depth s d a
+param_takes : {names : List (List ℕ)} {depth : ℕ} {s : Bool → Parser (WithHeight Spec)} {d : Parser (WithHeight Declarator)} {a : Parser (WithHeight AbstractDeclarator)} → TakeParts names depth s d a
     → (h : ℕ) (ts : Kinds) (p : Param) → h ≤ depth → ParamReads names h ts p → Takes (param names s d a) Closes h ts p
 unfolding param
 param_takes {names} parts h ts p deep (ParamReads.named _ _ _ s d x hs hd ss ds hi is pi first second) rest ends =
@@ -181,7 +181,7 @@ pub params_separated : {names : List (List ℕ)} {h : ℕ} {ts : Kinds} {ps : Li
 params_separated (ParamListReads.one_param h ts ps p pi read) = SeparatedRead.one_item h ts ps p pi read
 params_separated (ParamListReads.more_params h ts ps p others hp ho pts os hi is pi read more) = SeparatedRead.more_items h ts ps p others hp ho pts os hi is pi read (params_separated more)
 
-param_items : {names : List (List ℕ)} {depth : ℕ} {s : Bool → Parser (Tall Spec)} {d : Parser (Tall Declarator)} {a : Parser (Tall AbstractDeclarator)} → TakeParts names depth s d a
+param_items : {names : List (List ℕ)} {depth : ℕ} {s : Bool → Parser (WithHeight Spec)} {d : Parser (WithHeight Declarator)} {a : Parser (WithHeight AbstractDeclarator)} → TakeParts names depth s d a
     → TakesItems (λ k ks p. ParamReads names k ks p) (param names s d a) Closes depth
 param_items {names} parts = record {
   takes = param_takes parts;
@@ -190,7 +190,7 @@ param_items {names} parts = record {
 }
 
 -- `void` and a closing parenthesis begin no list of parameters but that of `void` alone
-module _ (names : List (List ℕ)) (s : Bool → Parser (Tall Spec)) (d : Parser (Tall Declarator)) (a : Parser (Tall AbstractDeclarator)) where
+module _ (names : List (List ℕ)) (s : Bool → Parser (WithHeight Spec)) (d : Parser (WithHeight Declarator)) (a : Parser (WithHeight AbstractDeclarator)) where
   abbrev IsVoid : Kinds → Type 0
   IsVoid ts = is_void_alone names s d a ts ≡ true
 
@@ -235,7 +235,7 @@ parenthesis_no_comma : (ks : Kinds) → Lacks mark.Comma (Mark mark.RightParenth
 unfolding same_mark
 parenthesis_no_comma ks = refl
 
-pub params_take : (names : List (List ℕ)) (depth : ℕ) (s : Bool → Parser (Tall Spec)) (d : Parser (Tall Declarator)) (a : Parser (Tall AbstractDeclarator)) → TakeParts names depth s d a
+pub params_take : (names : List (List ℕ)) (depth : ℕ) (s : Bool → Parser (WithHeight Spec)) (d : Parser (WithHeight Declarator)) (a : Parser (WithHeight AbstractDeclarator)) → TakeParts names depth s d a
     → (h : ℕ) (ts : Kinds) (p : Params) → h ≤ depth → ParamsRead names h ts p → Takes (params names s d a) ClosesParenthesis h ts p
 unfolding params same_mark same_word
 params_take names depth s d a parts h ts p deep (ParamsRead.nothing _ _ _ hi is pi) rest (ks, ends) = rw (is, hi, pi, ends)

@@ -5,13 +5,13 @@ use Rattle.c_tokens.specs.declared.token.Kind.TheVariants.{Mark}
 use Rattle.c_tokens.specs.declared.token.Mark.{Mark as MarkName}
 use Rattle.c_tokens.specs.declared.token.Mark.TheVariants as mark
 use Rattle.c_tree.specs.Marks.{Kinds}
-use Rattle.c_expr.specs.inner.Parser.{is_mark, run, Parser, Tall, and_then, pure, sees}
+use Rattle.c_expr.specs.inner.Parser.{is_mark, run, Parser, WithHeight, and_then, pure, sees}
 use Rattle.c_expr.specs.inner.Readers.{begins_spec, opened}
 use Rattle.c_expr.specs.Theorems.{ReadsOnly}
 use Rattle.c_expr.specs.inner.ParserLemmas.{sees_true, found_both, ReadsPrefix, both_answer}
 
 -- an answer of a chain whose first reader reads trees
-pub tree_answer : {A B C : Type 0} {R : ℕ → Kinds → A → Type 0} {depth : ℕ} (p : Parser (Tall A)) → ReadsOnly p depth R → (ts : Kinds) (f : Tall A → Parser B) (q : B × Kinds) → and_then (p ts) f ≡ Some q
+pub tree_answer : {A B C : Type 0} {R : ℕ → Kinds → A → Type 0} {depth : ℕ} (p : Parser (WithHeight A)) → ReadsOnly p depth R → (ts : Kinds) (f : WithHeight A → Parser B) (q : B × Kinds) → and_then (p ts) f ≡ Some q
     → ((x : A) (h : ℕ) (ks prefix : Kinds) → ts ≡ prefix ++ ks → h ≤ depth → R h prefix x → f (x, h) ks ≡ Some q → C) → C
 tree_answer p reads ts f q is on = both_answer (p ts) f q is (λ x ks here more. let r = reads ts x.0 x.1 ks here in on x.0 x.1 ks r.0 r.1 r.2 r.3 more)
 
@@ -59,14 +59,14 @@ opened_split names (k ∷ ks) = by (is_mark mark.LeftParenthesis k && not (begin
     by false seen more = rw seen refl
 
 -- what a reader with no more to read answers
-pub pure_parts : {A : Type 0} (p : Tall A) (y : A) (k : ℕ) (ts rest : Kinds) → pure p ts ≡ Some ((y, k), rest) → (y ≡ p.0) × (k ≡ p.1) × (rest ≡ ts)
+pub pure_parts : {A : Type 0} (p : WithHeight A) (y : A) (k : ℕ) (ts rest : Kinds) → pure p ts ≡ Some ((y, k), rest) → (y ≡ p.0) × (k ≡ p.1) × (rest ≡ ts)
 pure_parts {A} p y k ts rest is = let b = found_both is in let same : ◌≡◌ {A = A × ℕ} p (y, k) = b.0 in (sym (ap (λ (r : A × ℕ). r.0) same), sym (ap (λ (r : A × ℕ). r.1) same), sym b.1)
 
 -- so what holds of the one holds of the other
-pub pure_holds : {A : Type 0} {p : Tall A} {y : A} {k : ℕ} {ts rest : Kinds} (P : A → ℕ → Kinds → Type 0) → pure p ts ≡ Some ((y, k), rest) → P p.0 p.1 ts → P y k rest
+pub pure_holds : {A : Type 0} {p : WithHeight A} {y : A} {k : ℕ} {ts rest : Kinds} (P : A → ℕ → Kinds → Type 0) → pure p ts ≡ Some ((y, k), rest) → P p.0 p.1 ts → P y k rest
 pure_holds {A} {p} {y} {k} {ts} {rest} P is holds = let l = pure_parts p y k ts rest is in subst (λ z. P z k rest) (sym l.0) (subst (λ h. P p.0 h rest) (sym l.1) (subst (λ us. P p.0 p.1 us) (sym l.2) holds))
 
-pub pure_answer : {A : Type 0} {p : Tall A} {y : A} {k : ℕ} {us rest : Kinds} (R : ℕ → Kinds → A → Type 0) (depth : ℕ) (ts : Kinds) → pure p us ≡ Some ((y, k), rest) → ReadsPrefix R depth ts p.0 p.1 us → ReadsPrefix R depth ts y k rest
+pub pure_answer : {A : Type 0} {p : WithHeight A} {y : A} {k : ℕ} {us rest : Kinds} (R : ℕ → Kinds → A → Type 0) (depth : ℕ) (ts : Kinds) → pure p us ≡ Some ((y, k), rest) → ReadsPrefix R depth ts p.0 p.1 us → ReadsPrefix R depth ts y k rest
 pure_answer R depth ts is holds = pure_holds (λ z h vs. ReadsPrefix R depth ts z h vs) is holds
 
 pub push : {ts ks : Kinds} {k : Kind} (more rest : Kinds) → ts ≡ k ∷ ks → ks ≡ more ++ rest → ts ≡ (k ∷ more) ++ rest

@@ -16,7 +16,7 @@ use Rattle.c_tree.specs.Grammar.{ExprReads, ExprForm}
 use Rattle.c_expr.specs.declared.operand.Continuation.{Continuation}
 use Rattle.c_expr.specs.declared.operand.Operand.{Operand}
 use Rattle.c_expr.specs.declared.operand.Part.{Part}
-use Rattle.c_expr.specs.inner.Parser.{Parser, Outcome, Tall, behind}
+use Rattle.c_expr.specs.inner.Parser.{Parser, Outcome, WithHeight, behind}
 use Rattle.c_expr.specs.inner.Readers.{Readers, is_type_name, continuation, whole_level, left_level, takes, taken, going_on, extended, bracketed, operand, opened, opens_type, part, grown_by, grown_with, grow_from, grow, close, sizeof, cast, unary_behind, prefixed_by, prefixed, head_by, head, level_in, level}
 use Rattle.c_expr.specs.Theorems.{ReadsOnly, AreSound}
 use Rattle.c_expr.proofs.TypeNames.{no_type_name_is_free}
@@ -90,7 +90,7 @@ module _ (names : List (List ℕ)) (n : ℕ) (inner : Readers) (below : AreSound
 
   grown_by_reads : (least : ℕ) (o : Operand) (prefix ts : Kinds) (final : Operand) (rest : Kinds) (more : Operand → Parser Operand)
       → ((p : Operand) (all us : Kinds) → OperandReads names n all p → more p us ≡ Some (final, rest) → OperandFound names n (all ++ us) final rest)
-      → OperandReads names n prefix o → (c : Continuation) → going_on n least o ts ≡ Some c → (q : Outcome (Tall Part)) → part names inner c (behind ts) ≡ q → grown_by names inner o ts more q ≡ Some (final, rest) → OperandFound names n (prefix ++ ts) final rest
+      → OperandReads names n prefix o → (c : Continuation) → going_on n least o ts ≡ Some c → (q : Outcome (WithHeight Part)) → part names inner c (behind ts) ≡ q → grown_by names inner o ts more q ≡ Some (final, rest) → OperandFound names n (prefix ++ ts) final rest
   grown_by_reads least o prefix ts final rest more onward here c seen None none is = plain_holds (λ final rest. OperandFound names n (prefix ++ ts) final rest) is (prefix, refl, here)
   grown_by_reads least o prefix ts final rest more onward here c seen (Some q) found is =
       let g = going_on_some n least o ts c seen in

@@ -8,7 +8,7 @@ use Rattle.c_expr.specs.declared.operand.Continuation.{Continuation}
 use Rattle.c_expr.specs.declared.operand.Continuation.TheVariants as goes
 use Rattle.c_expr.specs.declared.operand.Part.{Part}
 use Rattle.c_expr.specs.declared.operand.Part.TheVariants as part_as
-use Rattle.c_expr.specs.inner.Parser.{Tall, pure, separated}
+use Rattle.c_expr.specs.inner.Parser.{WithHeight, pure, separated}
 use Rattle.c_expr.specs.inner.Readers.{Readers, whole_level, part_level, is_type_name, free_name, arguments, index, arms, part}
 use Rattle.c_expr.specs.Theorems.{AreSound}
 use Rattle.c_expr.proofs.completeness.Operands.{PartShrinks}
@@ -23,7 +23,7 @@ EndsWith ts rest = (prefix : Kinds) × (ts ≡ prefix ++ rest)
 abbrev pub Fits : Continuation → Kinds → Part → Kinds → Type 0
 Fits c ts p rest = (prefix : Kinds) × (ts ≡ prefix ++ rest) × (part_level p ≡ whole_level c)
 
-fits_last : (c : Continuation) (prefix : Kinds) (q : Tall Part) (y : Part) (k : ℕ) (ts us rest : Kinds) → ts ≡ prefix ++ us → part_level q.0 ≡ whole_level c → pure q us ≡ Some ((y, k), rest) → Fits c ts y rest
+fits_last : (c : Continuation) (prefix : Kinds) (q : WithHeight Part) (y : Part) (k : ℕ) (ts us rest : Kinds) → ts ≡ prefix ++ us → part_level q.0 ≡ whole_level c → pure q us ≡ Some ((y, k), rest) → Fits c ts y rest
 fits_last c prefix q y k ts us rest split level is = let l = pure_parts q y k us rest is in (prefix, split ∙ ap (λ vs. prefix ++ vs) (sym l.2), ap part_level l.0 ∙ level)
 
 module _ (names : List (List ℕ)) (n : ℕ) (r : Readers) (sound : AreSound names n r) where

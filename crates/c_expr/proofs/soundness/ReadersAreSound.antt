@@ -5,7 +5,7 @@ use Rattle.c_tree.specs.declared.expression.MemberDecl.{MemberDecl}
 use Rattle.c_tree.specs.Marks.{Kinds}
 use Rattle.c_tree.specs.Grammar.{SpecReads, DirectReads, AbstractReads}
 use Rattle.c_expr.specs.declared.brackets.Bracketed.{Bracketed}
-use Rattle.c_expr.specs.inner.Parser.{Tall, mismatch}
+use Rattle.c_expr.specs.inner.Parser.{WithHeight, mismatch}
 use Rattle.c_expr.specs.inner.Readers.{Readers, nothing, readers, direct_of, direct, declarator, abstract, spec, struct_body, member, members, members_from}
 use Rattle.c_expr.specs.Theorems.{ReadsOnly, AreSound, ReadersAreSound}
 use Rattle.c_expr.specs.inner.ParserLemmas.{both_answer, mark_answer}
@@ -27,7 +27,7 @@ nothing_sound names = record {
 }
 
 -- so nothing of the least depth has a struct's body
-no_members : (names : List (List ℕ)) (k : ℕ) (found : List MemberDecl) (h : ℕ) (ts : Kinds) (q : Tall (List MemberDecl) × Kinds) → members_from names nothing k found h ts ≡ Some q → ⊥
+no_members : (names : List (List ℕ)) (k : ℕ) (found : List MemberDecl) (h : ℕ) (ts : Kinds) (q : WithHeight (List MemberDecl) × Kinds) → members_from names nothing k found h ts ≡ Some q → ⊥
 unfolding members_from member
 no_members names zero found h ts q is = cc
 no_members names (suc k) found h ts q is = cc
@@ -40,8 +40,8 @@ direct_sound : (names : List (List ℕ)) (n : ℕ) (inner : Readers) → AreSoun
     → (prefix : Kinds) × (ts ≡ prefix ++ rest) × ((x : List ℕ) × DirectReads names b.height x prefix (direct_of b.core))
 direct_sound names n inner below ts b rest is = let d = direct_found names n inner below ts b rest is in (d.0, d.2, (d.1, d.3))
 
-nothing_tall : {A : Type 0} (depth : ℕ) (R : ℕ → Kinds → A → Type 0) → ReadsOnly {A = A} mismatch depth R
-nothing_tall depth R ts x h rest is = cc
+nothing_read : {A : Type 0} (depth : ℕ) (R : ℕ → Kinds → A → Type 0) → ReadsOnly {A = A} mismatch depth R
+nothing_read depth R ts x h rest is = cc
 
 pub readers_are_sound : ReadersAreSound
 unfolding readers
@@ -54,7 +54,7 @@ readers_are_sound names zero =
       declarator = λ ts d h rest is. cc;
       direct = direct_sound names 0 nothing (nothing_sound names);
       abstract = λ ts a h rest is. cc;
-      params = params_reads names 0 (spec names nothing) mismatch mismatch specs (nothing_tall 0 (NamedReads names)) (nothing_tall 0 (AbstractReads names));
+      params = params_reads names 0 (spec names nothing) mismatch mismatch specs (nothing_read 0 (NamedReads names)) (nothing_read 0 (AbstractReads names));
     }
 readers_are_sound names (suc n) =
     let inner = readers names n in

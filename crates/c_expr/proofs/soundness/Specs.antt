@@ -13,7 +13,7 @@ use Rattle.c_tree.specs.declared.expression.Params.{Params}
 use Rattle.c_tree.specs.declared.expression.Spec.{Spec}
 use Rattle.c_tree.specs.Marks.{Kinds}
 use Rattle.c_tree.specs.Grammar.{IsFree, SpecReads, MembersRead, DeclaratorsRead, DeclaratorReads, AbstractReads, TypeWordReads, ParamReads, ParamListReads, ParamsRead}
-use Rattle.c_expr.specs.inner.Parser.{Parser, Tall, same_mark, same_word, is_word, sees, behind, separated}
+use Rattle.c_expr.specs.inner.Parser.{Parser, WithHeight, same_mark, same_word, is_word, sees, behind, separated}
 use Rattle.c_expr.specs.inner.Readers.{Readers, is_type_name, free_name, member, members_from, members, struct_body, struct, spec_by, spec, type_word, looks_named, param, is_void_alone, params}
 use Rattle.c_expr.specs.Theorems.{ReadsOnly, ClosesParenthesis, AreSound}
 use Rattle.c_expr.proofs.TypeNames.{type_name_contains}
@@ -150,7 +150,7 @@ module _ (names : List (List ℕ)) (deep : ℕ) (inner : Readers) (body : (bodie
 
 -- ---- parameters
 
-module _ (names : List (List ℕ)) (deep : ℕ) (specs : Bool → Parser (Tall Spec)) (declarators : Parser (Tall Declarator)) (abstracts : Parser (Tall AbstractDeclarator))
+module _ (names : List (List ℕ)) (deep : ℕ) (specs : Bool → Parser (WithHeight Spec)) (declarators : Parser (WithHeight Declarator)) (abstracts : Parser (WithHeight AbstractDeclarator))
     (spec_is : (bodies : Bool) → ReadsOnly (specs bodies) deep (SpecReads names bodies)) (declarator_is : ReadsOnly declarators deep (NamedReads names)) (abstract_is : ReadsOnly abstracts deep (AbstractReads names)) where
   void_first : (k : Kind) (ks : Kinds) → is_void_alone names specs declarators abstracts (k ∷ ks) ≡ true → k ∷ ks ≡ Word word.Void ∷ ks
   void_first (Word w) ks is = ap (λ v. Word v ∷ ks) (same_word_true w word.Void (both_true (is_word word.Void (Word w)) (sees mark.RightParenthesis ks) is).0)

@@ -35,8 +35,8 @@ abbrev pub mismatch : {A : Type 0} → Parser A
 mismatch = λ ts. None
 
 -- a tree, and how deep its nodes are
-abbrev pub Tall : Type 0 → Type 0
-Tall A = A × ℕ
+abbrev pub WithHeight : Type 0 → Type 0
+WithHeight A = A × ℕ
 
 unfoldable pub same_mark : MarkName → MarkName → Bool
 same_mark = sameb the_marks
@@ -82,7 +82,7 @@ run m (k ∷ ks) = let more = run m ks in if is_mark m k then (suc more.0, more.
 
 -- ---- lists. The number bounds the turns, and each turn takes a token, so the count of tokens is enough.
 
-unfoldable pub separated_from : {A : Type 0} → Parser (Tall A) → ℕ → List A → ℕ → Parser (Tall (List A))
+unfoldable pub separated_from : {A : Type 0} → Parser (WithHeight A) → ℕ → List A → ℕ → Parser (WithHeight (List A))
 separated_from item zero found height = mismatch
 separated_from item (suc n) found height = do
   x ← item
@@ -90,5 +90,5 @@ separated_from item (suc n) found height = do
   if more then separated_from item n (found ++ x.0 ∷ []) (max height x.1) else pure (found ++ x.0 ∷ [], max height x.1)
 
 -- at least one, with commas between
-unfoldable pub separated : {A : Type 0} → Parser (Tall A) → Parser (Tall (List A))
+unfoldable pub separated : {A : Type 0} → Parser (WithHeight A) → Parser (WithHeight (List A))
 separated item = λ ts. separated_from item (length ts) [] 0 ts

@@ -8,7 +8,7 @@ use Rattle.c_tokens.specs.declared.token.Keyword.{Keyword}
 use Rattle.c_tokens.specs.declared.token.Kind.TheVariants.{Word, Name, Number, Text, Mark}
 use Rattle.c_tokens.specs.declared.token.Mark.{Mark as MarkName}
 use Rattle.c_tree.specs.Marks.{Kinds}
-use Rattle.c_expr.specs.inner.Parser.{Parser, Outcome, Tall, and_then, pure, same_mark, same_word, sees, after, expect}
+use Rattle.c_expr.specs.inner.Parser.{Parser, Outcome, WithHeight, and_then, pure, same_mark, same_word, sees, after, expect}
 
 -- ---- marks and words
 
@@ -135,7 +135,7 @@ found_more found h {rest = rest} x hx prefix ks split deep more o =
 
 -- what was found before, and the greatest height of all
 pub found_then : {A : Type 0} (found others : List A) (x : A) (a b c : ℕ) (rest : Kinds)
-    → ◌≡◌ {A = Outcome (Tall (List A))} (Some (((found ++ x ∷ []) ++ others, max (max a b) c), rest)) (Some ((found ++ (x ∷ others), max a (max b c)), rest))
+    → ◌≡◌ {A = Outcome (WithHeight (List A))} (Some (((found ++ x ∷ []) ++ others, max (max a b) c), rest)) (Some ((found ++ (x ∷ others), max a (max b c)), rest))
 found_then found others x a b c rest = let high : max (max a b) c ≡ max a (max b c) = omega arith in rw (append_assoc found (x ∷ []) others, high)
 
 -- ---- loops that count up, beside readers that count down

@@ -37,7 +37,7 @@ use Rattle.c_expr.specs.declared.operand.Part.TheVariants as part_as
 use Rattle.c_expr.specs.declared.brackets.Core.{Core}
 use Rattle.c_expr.specs.declared.brackets.Core.TheVariants as core_as
 use Rattle.c_expr.specs.declared.brackets.Bracketed.{Bracketed}
-use Rattle.c_expr.specs.inner.Parser.{Parser, Outcome, Tall, ◌>>=◌, ◌>>◌, pure, mismatch, is_mark, is_word, sees, behind, eat, expect, run, separated}
+use Rattle.c_expr.specs.inner.Parser.{Parser, Outcome, WithHeight, ◌>>=◌, ◌>>◌, pure, mismatch, is_mark, is_word, sees, behind, eat, expect, run, separated}
 
 -- ---- names
 
@@ -139,7 +139,7 @@ with_part a (part_as.Conditional b c) = e.Conditional a b c
 with_part a (part_as.Assign op b) = e.Assign a op b
 
 -- the operand with what goes on behind it
-unfoldable pub extended : Operand → Tall Part → Operand
+unfoldable pub extended : Operand → WithHeight Part → Operand
 extended o p = record { expr = with_part o.expr p.0; level = part_level p.0; pairs = 0; height = 1 + max o.height p.1 }
 
 -- the operand in one more pair of parentheses
@@ -158,12 +158,12 @@ abbrev pub direct_of : Core → Direct
 direct_of (core_as.Name x) = direct_as.Name x
 direct_of (core_as.Form d) = direct_as.Bracketed d
 
-abbrev pub whole_of : Core → ℕ → Tall Declarator
+abbrev pub whole_of : Core → ℕ → WithHeight Declarator
 whole_of (core_as.Name x) height = (declarator_of 0 (direct_as.Name x) [], 1)
 whole_of (core_as.Form d) height = (d, height)
 
 -- a declarator of these stars and suffixes
-abbrev pub formed : ℕ → Bracketed → Tall (List Suffix) → Bracketed
+abbrev pub formed : ℕ → Bracketed → WithHeight (List Suffix) → Bracketed
 formed stars b ss = record { core = core_as.Form (declarator_of stars (direct_of b.core) ss.0); pairs = 0; height = 1 + max b.height ss.1 }
 
 abbrev pub in_brackets : Bracketed → Bracketed
@@ -176,13 +176,13 @@ is_none (x ∷ xs) = false
 -- ---- the readers of one depth
 
 pub record Readers : Type 0 where
-  pub expr : ℕ → Parser (Tall Expr)
-  pub type_word : Parser (Tall TypeWord)
-  pub spec : Bool → Parser (Tall Spec)
-  pub declarator : Parser (Tall Declarator)
+  pub expr : ℕ → Parser (WithHeight Expr)
+  pub type_word : Parser (WithHeight TypeWord)
+  pub spec : Bool → Parser (WithHeight Spec)
+  pub declarator : Parser (WithHeight Declarator)
   pub direct : Parser Bracketed
-  pub abstract : Parser (Tall AbstractDeclarator)
-  pub params : Parser (Tall Params)
+  pub abstract : Parser (WithHeight AbstractDeclarator)
+  pub params : Parser (WithHeight Params)
 
 -- below the least depth nothing stands
 abbrev pub nothing : Readers
@@ -232,7 +232,7 @@ module _ (names : List (List ℕ)) where
     -- ---- suffixes
 
     -- behind `[`
-    unfoldable pub bound : Parser (Tall Suffix)
+    unfoldable pub bound : Parser (WithHeight Suffix)
     bound = do
       is_open ← eat mark.RightBracket
       if is_open then pure (suffix_as.Array None, 0) else (do
@@ -240,7 +240,7 @@ module _ (names : List (List ℕ)) where
         expect mark.RightBracket
         pure (suffix_as.Array (Some size.0), size.1))
 
-    unfoldable pub suffix : Parser (Tall Suffix)
+    unfoldable pub suffix : Parser (WithHeight Suffix)
     suffix = do
       is_array ← eat mark.LeftBracket
       if is_array then bound else (do
@@ -252,12 +252,12 @@ module _ (names : List (List ℕ)) where
     abbrev pub opens_suffix : Kinds → Bool
     opens_suffix ts = sees mark.LeftBracket ts || sees mark.LeftParenthesis ts
 
-    unfoldable pub suffixes_from : ℕ → List Suffix → ℕ → Parser (Tall (List Suffix))
+    unfoldable pub suffixes_from : ℕ → List Suffix → ℕ → Parser (WithHeight (List Suffix))
     suffixes_from zero found height = pure (found, height)
     suffixes_from (suc n) found height = λ ts.
         if opens_suffix ts then (suffix >>= (λ s. suffixes_from n (found ++ s.0 ∷ []) (max height s.1))) ts else Some ((found, height), ts)
 
-    unfoldable pub suffixes : Parser (Tall (List Suffix))
+    unfoldable pub suffixes : Parser (WithHeight (List Suffix))
     suffixes = λ ts. suffixes_from (length ts) [] 0 ts
 
     -- ---- abstract declarators
@@ -266,7 +266,7 @@ module _ (names : List (List ℕ)) where
     opens_abstract ts = sees mark.LeftParenthesis ts && sees mark.Star (behind ts)
 
     -- behind the stars, in parentheses
-    unfoldable pub nested_abstract : ℕ → Parser (Tall AbstractDeclarator)
+    unfoldable pub nested_abstract : ℕ → Parser (WithHeight AbstractDeclarator)
     nested_abstract stars = do
       expect mark.LeftParenthesis
       inside ← inner.abstract
@@ -275,21 +275,21 @@ module _ (names : List (List ℕ)) where
       pure (abstract_of stars (Some inside.0) ss.0, 1 + max inside.1 ss.1)
 
     -- behind the stars
-    unfoldable pub abstract_behind : ℕ → Parser (Tall AbstractDeclarator)
+    unfoldable pub abstract_behind : ℕ → Parser (WithHeight AbstractDeclarator)
     abstract_behind stars = λ ts.
         if opens_abstract ts then nested_abstract stars ts
         else (suffixes >>= (λ ss. pure (abstract_of stars None ss.0, 1 + ss.1))) ts
 
-    unfoldable pub starred : Parser (Tall AbstractDeclarator)
+    unfoldable pub starred : Parser (WithHeight AbstractDeclarator)
     starred = λ ts. let stars = run mark.Star ts in abstract_behind stars.0 stars.1
 
     -- one in parentheses, with the suffixes behind it
-    abbrev pub with_suffixes : ℕ → Tall AbstractDeclarator → Tall (List Suffix) → Parser (Tall AbstractDeclarator)
+    abbrev pub with_suffixes : ℕ → WithHeight AbstractDeclarator → WithHeight (List Suffix) → Parser (WithHeight AbstractDeclarator)
     with_suffixes limit inside ss =
         if is_none ss.0 then pure inside
         else (if nat_le inside.1 limit then pure (abstract_of 0 (Some inside.0) ss.0, 1 + max inside.1 ss.1) else mismatch)
 
-    unfoldable pub bracketed_abstract : ℕ → Parser (Tall AbstractDeclarator)
+    unfoldable pub bracketed_abstract : ℕ → Parser (WithHeight AbstractDeclarator)
     bracketed_abstract limit = do
       expect mark.LeftParenthesis
       inside ← starred
@@ -297,7 +297,7 @@ module _ (names : List (List ℕ)) where
       ss ← suffixes
       with_suffixes limit inside ss
 
-    unfoldable pub abstract : ℕ → Parser (Tall AbstractDeclarator)
+    unfoldable pub abstract : ℕ → Parser (WithHeight AbstractDeclarator)
     abstract limit = λ ts. if opens_abstract ts then bracketed_abstract limit ts else starred ts
 
     -- ---- declarators
@@ -334,20 +334,20 @@ module _ (names : List (List ℕ)) where
     unfoldable pub direct : ℕ → Parser Bracketed
     direct limit = λ ts. let run = opened ts in direct_in limit run.0 run.1
 
-    unfoldable pub declarator : ℕ → Parser (Tall Declarator)
+    unfoldable pub declarator : ℕ → Parser (WithHeight Declarator)
     declarator limit = λ ts. let stars = run mark.Star ts in
         (do b ← direct_behind (direct limit) stars.0; whole ← finished limit stars.0 b; pure (whole_of whole.core whole.height)) stars.1
 
     -- ---- specs
 
-    unfoldable pub member : Parser (Tall MemberDecl)
+    unfoldable pub member : Parser (WithHeight MemberDecl)
     member = do
       s ← inner.spec true
       ds ← separated inner.declarator
       expect mark.Semicolon
       pure (roll-MemberDecl (record { spec = s.0; declarators = ds.0 }), max s.1 ds.1)
 
-    unfoldable pub members_from : ℕ → List MemberDecl → ℕ → Parser (Tall (List MemberDecl))
+    unfoldable pub members_from : ℕ → List MemberDecl → ℕ → Parser (WithHeight (List MemberDecl))
     members_from zero found height = mismatch
     members_from (suc n) found height = do
       m ← member
@@ -355,23 +355,23 @@ module _ (names : List (List ℕ)) where
       if ends then pure (found ++ m.0 ∷ [], max height m.1) else members_from n (found ++ m.0 ∷ []) (max height m.1)
 
     -- at least one, and the brace behind them
-    unfoldable pub members : Parser (Tall (List MemberDecl))
+    unfoldable pub members : Parser (WithHeight (List MemberDecl))
     members = λ ts. members_from (length ts) [] 0 ts
 
-    unfoldable pub struct_body : List ℕ → Parser (Tall Spec)
+    unfoldable pub struct_body : List ℕ → Parser (WithHeight Spec)
     struct_body x = do
       expect mark.LeftBrace
       ms ← members
       pure (struct_with x ms.0, 1 + ms.1)
 
     -- behind `struct`; the test says whether it may have a body
-    unfoldable pub struct : Bool → Parser (Tall Spec)
+    unfoldable pub struct : Bool → Parser (WithHeight Spec)
     struct bodies = do
       x ← free_name
       has_body ← (λ ts. Some (bodies && sees mark.LeftBrace ts, ts))
       if has_body then struct_body x else pure (spec_as.Struct x None, 0)
 
-    abbrev pub spec_by : Bool → Kind → Parser (Tall Spec)
+    abbrev pub spec_by : Bool → Kind → Parser (WithHeight Spec)
     spec_by bodies (Word word.Int) = pure (spec_as.Int, 0)
     spec_by bodies (Word word.Char) = pure (spec_as.Char, 0)
     spec_by bodies (Word word.Void) = pure (spec_as.Void, 0)
@@ -379,11 +379,11 @@ module _ (names : List (List ℕ)) where
     spec_by bodies (Name x) = if is_type_name names x then pure (spec_as.TypeName x, 0) else mismatch
     spec_by bodies _ = mismatch
 
-    unfoldable pub spec : Bool → Parser (Tall Spec)
+    unfoldable pub spec : Bool → Parser (WithHeight Spec)
     spec bodies [] = None
     spec bodies (k ∷ ks) = spec_by bodies k ks
 
-    unfoldable pub type_word : Parser (Tall TypeWord)
+    unfoldable pub type_word : Parser (WithHeight TypeWord)
     type_word = do
       s ← inner.spec false
       a ← inner.abstract
@@ -391,7 +391,7 @@ module _ (names : List (List ℕ)) where
 
     -- ---- expressions
 
-    unfoldable pub arguments : Parser (Tall (List Expr))
+    unfoldable pub arguments : Parser (WithHeight (List Expr))
     arguments = do
       is_empty ← eat mark.RightParenthesis
       if is_empty then pure ([], 0) else (do
@@ -399,13 +399,13 @@ module _ (names : List (List ℕ)) where
         expect mark.RightParenthesis
         pure given)
 
-    unfoldable pub index : Parser (Tall Part)
+    unfoldable pub index : Parser (WithHeight Part)
     index = do
       i ← inner.expr assign_level
       expect mark.RightBracket
       pure (part_as.Index i.0, i.1)
 
-    unfoldable pub arms : Parser (Tall Part)
+    unfoldable pub arms : Parser (WithHeight Part)
     arms = do
       a ← inner.expr assign_level
       expect mark.Colon
@@ -413,7 +413,7 @@ module _ (names : List (List ℕ)) where
       pure (part_as.Conditional a.0 b.0, max a.1 b.1)
 
     -- behind the mark
-    abbrev pub part_by : Continuation → Parser (Tall Part)
+    abbrev pub part_by : Continuation → Parser (WithHeight Part)
     part_by goes.Index = index
     part_by goes.Call = arguments >>= (λ given. pure (part_as.Call given.0, given.1))
     part_by goes.Member = free_name >>= (λ x. pure (part_as.Member x, 0))
@@ -424,11 +424,11 @@ module _ (names : List (List ℕ)) where
     part_by goes.Conditional = arms
     part_by (goes.Assign op) = inner.expr assign_level >>= (λ b. pure (part_as.Assign op b.0, b.1))
 
-    unfoldable pub part : Continuation → Parser (Tall Part)
+    unfoldable pub part : Continuation → Parser (WithHeight Part)
     part c = part_by c
 
     -- an attempt that gives nothing leaves the operand as it is
-    abbrev pub grown_by : Operand → Kinds → (Operand → Parser Operand) → Outcome (Tall Part) → Outcome Operand
+    abbrev pub grown_by : Operand → Kinds → (Operand → Parser Operand) → Outcome (WithHeight Part) → Outcome Operand
     grown_by o ts more None = Some (o, ts)
     grown_by o ts more (Some p) = more (extended o p.0) p.1
 
@@ -445,7 +445,7 @@ module _ (names : List (List ℕ)) where
     grow limit least o = λ ts. grow_from limit least (length ts) o ts
 
     -- closes so many parentheses
-    unfoldable pub close : ℕ → ℕ → ℕ → Operand → Parser (Tall Expr)
+    unfoldable pub close : ℕ → ℕ → ℕ → Operand → Parser (WithHeight Expr)
     close limit least zero o = do
       whole ← grow limit least o
       if nat_le least whole.level then pure (whole.expr, whole.height) else mismatch
@@ -505,16 +505,16 @@ module _ (names : List (List ℕ)) where
     head (k ∷ ks) = head_by k ks
 
     -- with so many parentheses open
-    unfoldable pub level_in : ℕ → ℕ → ℕ → Parser (Tall Expr)
+    unfoldable pub level_in : ℕ → ℕ → ℕ → Parser (WithHeight Expr)
     level_in limit least n = λ ts. let more = opened ts in (head >>= close limit least (n + more.0)) more.1
 
-    unfoldable pub level : ℕ → ℕ → Parser (Tall Expr)
+    unfoldable pub level : ℕ → ℕ → Parser (WithHeight Expr)
     level limit least = level_in limit least 0
 
   -- ---- parameters, by the readers of their own depth
 
-  module _ (spec : Bool → Parser (Tall Spec)) (declarator : Parser (Tall Declarator)) (abstract : Parser (Tall AbstractDeclarator)) where
-    unfoldable pub param : Parser (Tall Param)
+  module _ (spec : Bool → Parser (WithHeight Spec)) (declarator : Parser (WithHeight Declarator)) (abstract : Parser (WithHeight AbstractDeclarator)) where
+    unfoldable pub param : Parser (WithHeight Param)
     param = do
       s ← spec true
       is_named ← (λ ts. Some (looks_named ts, ts))
@@ -526,7 +526,7 @@ module _ (names : List (List ℕ)) where
     is_void_alone (k ∷ ks) = is_word word.Void k && sees mark.RightParenthesis ks
 
     -- to before the closing parenthesis
-    unfoldable pub params : Parser (Tall Params)
+    unfoldable pub params : Parser (WithHeight Params)
     params = λ ts.
         if sees mark.RightParenthesis ts then Some ((params_as.Nothing, 0), ts)
         else (if is_void_alone ts then Some ((params_as.VoidAlone, 0), behind ts)

@@ -15,7 +15,7 @@ use Rattle.c_tree.specs.Marks.{Kinds, wrapped, assign_level}
 use Rattle.c_tree.specs.Trees.{full as full_of}
 use Rattle.c_tree.specs.Grammar.{SpecReads, DeclaratorReads, ExprReads}
 use Rattle.c_tree.specs.Statements.{InitReads, InitsRead, InitDeclaratorReads, InitDeclaratorListReads, InitDeclaratorsRead, DeclReads, OptionReads, ForInitReads}
-use Rattle.c_expr.specs.inner.Parser.{Parser, Outcome, Tall, same_mark, behind}
+use Rattle.c_expr.specs.inner.Parser.{Parser, Outcome, WithHeight, same_mark, behind}
 use Rattle.c_expr.specs.inner.Readers.{Readers, begins_spec, continuation_of}
 use Rattle.c_expr.specs.Theorems.{AreComplete, Takes, Stops, Lacks, FirstTokens}
 use Rattle.c_expr.specs.FirstTokens.{Begins, mark_begins_expression, CanBeginSpec}
@@ -30,7 +30,7 @@ pub at_tokens : {A : Type 0} (p : Parser A) {ts us : Kinds} {z : Outcome A} → 
 at_tokens p is here = ap p is ∙ here
 
 -- nothing found before
-pub nothing_before : {A : Type 0} (xs : List A) (h : ℕ) (rest : Kinds) → ◌≡◌ {A = Outcome (Tall (List A))} (Some ((xs, max 0 h), rest)) (Some ((xs, h), rest))
+pub nothing_before : {A : Type 0} (xs : List A) (h : ℕ) (rest : Kinds) → ◌≡◌ {A = Outcome (WithHeight (List A))} (Some ((xs, max 0 h), rest)) (Some ((xs, h), rest))
 nothing_before xs h rest = let high : max 0 h ≡ h = omega arith in rw high
 
 module _ (names : List (List ℕ)) (first : FirstTokens names) (depth : ℕ) (r : Readers) (complete : AreComplete names depth r) where
@@ -63,7 +63,7 @@ module _ (names : List (List ℕ)) (first : FirstTokens names) (depth : ℕ) (r 
 
   -- ---- initialisers
 
-  module _ (inner : Parser (Tall Init)) (inner_takes : (h : ℕ) (ts : Kinds) (i : Init) → h ≤ depth → InitReads names h ts i → Takes inner (Stops assign_level) h ts i) where
+  module _ (inner : Parser (WithHeight Init)) (inner_takes : (h : ℕ) (ts : Kinds) (i : Init) → h ≤ depth → InitReads names h ts i → Takes inner (Stops assign_level) h ts i) where
     brace_no_comma : (ks : Kinds) → Lacks mark.Comma (Mark mark.RightBrace ∷ ks)
     unfolding same_mark
     brace_no_comma ks = refl
@@ -95,7 +95,7 @@ module _ (names : List (List ℕ)) (first : FirstTokens names) (depth : ℕ) (r 
 
   -- ---- declarations
 
-  module _ (init : Parser (Tall Init)) (init_takes : (h : ℕ) (ts : Kinds) (i : Init) → h ≤ depth → InitReads names h ts i → Takes init (Stops assign_level) h ts i) where
+  module _ (init : Parser (WithHeight Init)) (init_takes : (h : ℕ) (ts : Kinds) (i : Init) → h ≤ depth → InitReads names h ts i → Takes init (Stops assign_level) h ts i) where
     -- a declarator, and the initialiser behind it
     record InitDeclaratorParts (h : ℕ) (ts : Kinds) (i : InitDeclarator) : Type 0 where
       declarator : Declarator

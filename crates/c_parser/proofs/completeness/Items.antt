@@ -16,7 +16,7 @@ use Rattle.c_tree.specs.DeclaredName.{declared_name}
 use Rattle.c_tree.specs.Theorems.{DeclaratorsDeclareTheirNames}
 use Rattle.c_tree.specs.Grammar.{SpecReads, DeclaratorsRead, DeclaratorReads}
 use Rattle.c_tree.specs.Statements.{InitReads, StmtReads, BlockReads, ItemReads}
-use Rattle.c_expr.specs.inner.Parser.{Parser, Outcome, Tall, same_mark, sees}
+use Rattle.c_expr.specs.inner.Parser.{Parser, Outcome, WithHeight, same_mark, sees}
 use Rattle.c_expr.specs.inner.Readers.{Readers, readers}
 use Rattle.c_expr.specs.Theorems.{AreComplete, Takes, Stops, Lacks, LacksSuffix, ExpressionLaws, FirstTokens}
 use Rattle.c_expr.specs.FirstTokens.{Begins, CanBeginSpec}
@@ -35,8 +35,8 @@ block_no_suffix : {names : List (List ℕ)} {h : ℕ} {bs : Kinds} {b : Block} (
 block_no_suffix rest (BlockReads.braces h ts b items ps is bi read) = rw is (brace_no_suffix ((ps ++ Mark mark.RightBrace ∷ []) ++ rest))
 
 module _ (named : DeclaratorsDeclareTheirNames) (names : List (List ℕ)) (first : FirstTokens names) (depth : ℕ) (r : Readers) (complete : AreComplete names depth r) where
-  module _ (init : Parser (Tall Init)) (init_takes : (h : ℕ) (ts : Kinds) (i : Init) → h ≤ depth → InitReads names h ts i → Takes init (Stops assign_level) h ts i) where
-    module _ (inner : Parser (Tall Stmt)) (inner_takes : StmtsTake names depth inner) where
+  module _ (init : Parser (WithHeight Init)) (init_takes : (h : ℕ) (ts : Kinds) (i : Init) → h ≤ depth → InitReads names h ts i → Takes init (Stops assign_level) h ts i) where
+    module _ (inner : Parser (WithHeight Stmt)) (inner_takes : StmtsTake names depth inner) where
       -- ---- type definitions
 
       declarator_takes : {h : ℕ} {x : List ℕ} {ds : Kinds} {d : Declarator} → h ≤ depth → DeclaratorReads names h x ds d → (rest : Kinds) → GoesOn rest → r.declarator (ds ++ rest) ≡ Some ((d, h), rest)
@@ -87,12 +87,12 @@ module _ (named : DeclaratorsDeclareTheirNames) (names : List (List ℕ)) (first
       -- ---- what begins with a spec
 
       -- a block behind the declarator
-      definition_takes : {hb : ℕ} {bs : Kinds} {b : Block} (s : Tall Spec) (d : Tall Declarator) → hb ≤ depth → BlockReads names hb bs b → (rest : Kinds) → item_of names r init inner s d (bs ++ rest) ≡ Some ((item_as.Function s.0 d.0 b, []), rest)
+      definition_takes : {hb : ℕ} {bs : Kinds} {b : Block} (s : WithHeight Spec) (d : WithHeight Declarator) → hb ≤ depth → BlockReads names hb bs b → (rest : Kinds) → item_of names r init inner s d (bs ++ rest) ≡ Some ((item_as.Function s.0 d.0 b, []), rest)
       unfolding item_of
       definition_takes {hb} {bs} {b} s d deep read rest = if_yes (sees mark.LeftBrace (bs ++ rest)) _ _ _ (block_opens rest read)
           (then_takes _ _ (b, hb) rest _ (block_takes names first depth r complete init init_takes inner inner_takes deep read rest) refl)
 
-      declaration_takes : {ha : ℕ} {ts : Kinds} {a : Decl} (s : Tall Spec) (d : Tall Declarator) (rest : Kinds) → GoesOn ts → decl_of names r init s d ts ≡ Some ((a, ha), rest) → item_of names r init inner s d ts ≡ Some ((item_as.Decl a, []), rest)
+      declaration_takes : {ha : ℕ} {ts : Kinds} {a : Decl} (s : WithHeight Spec) (d : WithHeight Declarator) (rest : Kinds) → GoesOn ts → decl_of names r init s d ts ≡ Some ((a, ha), rest) → item_of names r init inner s d ts ≡ Some ((item_as.Decl a, []), rest)
       unfolding item_of
       declaration_takes {ha} {ts = ts} {a} s d rest on is = if_no (sees mark.LeftBrace ts) _ _ _ (goes_on_lacks mark.LeftBrace ts refl on) (then_takes _ _ (a, ha) rest _ is refl)
 

@@ -16,7 +16,7 @@ use Rattle.c_tree.specs.Marks.{Kinds, wrapped, assign_level}
 use Rattle.c_tree.specs.Trees.{full, for_loop}
 use Rattle.c_tree.specs.Grammar.{ExprReads}
 use Rattle.c_tree.specs.Statements.{InitReads, OptionReads, ForInitReads, StmtReads, BlockReads, BlockItemsRead, BlockItemReads}
-use Rattle.c_expr.specs.inner.Parser.{Parser, Tall}
+use Rattle.c_expr.specs.inner.Parser.{Parser, WithHeight}
 use Rattle.c_expr.specs.inner.Readers.{Readers, begins_spec}
 use Rattle.c_expr.specs.Theorems.{AreComplete, Takes, Stops, FirstTokens}
 use Rattle.c_expr.specs.FirstTokens.{Begins, CanBeginSpec, CanBeginExpression}
@@ -28,12 +28,12 @@ use Rattle.c_parser.proofs.completeness.Declarations.{at_tokens, nothing_before,
 use Rattle.c_expr.specs.inner.ParserLemmas.{found_then}
 
 -- the parser takes statements of at most this depth; before an `else` it takes closed ones alone
-abbrev pub StmtsTake : List (List ℕ) → ℕ → Parser (Tall Stmt) → Type 0
+abbrev pub StmtsTake : List (List ℕ) → ℕ → Parser (WithHeight Stmt) → Type 0
 StmtsTake names depth p = (closed : Bool) (h : ℕ) (ts : Kinds) (s : Stmt) → h ≤ depth → StmtReads names closed h ts s → (rest : Kinds) → (closed ≡ false → sees_word word.Else rest ≡ false) → p (ts ++ rest) ≡ Some ((s, h), rest)
 
 module _ (names : List (List ℕ)) (first : FirstTokens names) (depth : ℕ) (r : Readers) (complete : AreComplete names depth r) where
-  module _ (init : Parser (Tall Init)) (init_takes : (h : ℕ) (ts : Kinds) (i : Init) → h ≤ depth → InitReads names h ts i → Takes init (Stops assign_level) h ts i) where
-    module _ (inner : Parser (Tall Stmt)) (inner_takes : StmtsTake names depth inner) where
+  module _ (init : Parser (WithHeight Init)) (init_takes : (h : ℕ) (ts : Kinds) (i : Init) → h ≤ depth → InitReads names h ts i → Takes init (Stops assign_level) h ts i) where
+    module _ (inner : Parser (WithHeight Stmt)) (inner_takes : StmtsTake names depth inner) where
       -- ---- blocks
 
       block_item_begins : {h : ℕ} {ts : Kinds} {p : BlockItem} → BlockItemReads names h ts p → Begins (λ k. CanBeginStatement names k ⊎ CanBeginSpec names k) ts
