@@ -4,11 +4,11 @@ use Rattle.c_tokens.specs.declared.token.Mark.TheVariants as mark
 use Rattle.c_tree.specs.Marks.{Kinds, greatest_pairs, assign_level}
 use Rattle.c_tree.specs.declared.expression.Expr.{Expr}
 use Rattle.c_expr.specs.declared.operand.Operand.{Operand}
-use Rattle.c_expr.specs.Parser.{Outcome, Parser, Tall, and_then, ◌>>◌, pure, mismatch, expect}
-use Rattle.c_expr.specs.Readers.{Readers, grow, close, bracketed}
-use Rattle.c_expr.specs.Nests.{in_pair}
+use Rattle.c_expr.specs.inner.Parser.{Outcome, Parser, WithHeight, and_then, ◌>>◌, pure, mismatch, expect}
+use Rattle.c_expr.specs.inner.Readers.{Readers, grow, close, bracketed}
+use Rattle.c_expr.specs.inner.Nests.{in_pair}
 
-module _ (more : Operand → Parser (Tall Expr)) (o : Operand) where
+module _ (more : Operand → Parser (WithHeight Expr)) (o : Operand) where
   pair_test : (b : Bool) (ts : Kinds) → (if b then more (bracketed o) else mismatch) ts ≡ and_then ((if b then pure (bracketed o) else mismatch) ts) more
   pair_test true ts = refl
   pair_test false ts = refl
@@ -18,7 +18,7 @@ module _ (more : Operand → Parser (Tall Expr)) (o : Operand) where
   pair_expected (Some p) = pair_test (nat_lt o.pairs greatest_pairs) p.1
   pair_expected None = refl
 
-pair_grown : (more : Operand → Parser (Tall Expr)) (grown : Outcome Operand)
+pair_grown : (more : Operand → Parser (WithHeight Expr)) (grown : Outcome Operand)
     → and_then grown (λ o. expect mark.RightParenthesis >> (if nat_lt o.pairs greatest_pairs then more (bracketed o) else mismatch))
     ≡ and_then (and_then grown (λ o. expect mark.RightParenthesis >> (if nat_lt o.pairs greatest_pairs then pure (bracketed o) else mismatch))) more
 pair_grown more (Some p) = pair_expected more p.0 (expect mark.RightParenthesis p.1)

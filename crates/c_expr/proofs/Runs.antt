@@ -1,10 +1,10 @@
--- Turns of the loops that count tokens at the front.
+-- Turns of the loops that count the tokens that come.
 use Rattle.std.proofs.Common.{◌≡◌, ℕ, suc, ◌+◌, true, false, List, [], ◌∷◌, length, refl, sym, ap, subst, ◌∙◌, arith}
 use Rattle.c_tokens.specs.declared.token.Mark.{Mark as MarkName}
 use Rattle.c_tokens.specs.declared.token.Mark.TheVariants as mark
 use Rattle.c_tree.specs.Marks.{Kinds}
-use Rattle.c_expr.specs.Parser.{sees, behind, after, run}
-use Rattle.c_expr.specs.Readers.{begins_spec, opened}
+use Rattle.c_expr.specs.inner.Parser.{sees, behind, after, run}
+use Rattle.c_expr.specs.inner.Readers.{begins_spec, opened}
 
 -- how many were found, and how many tokens are left of so many
 pub record IsCounted (whole : ℕ × Kinds) (count : ℕ) (more : ℕ × Kinds) (left : ℕ) (ts : Kinds) : Type 0 where

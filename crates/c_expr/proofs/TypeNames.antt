@@ -6,12 +6,12 @@ use Rattle.std.proofs.lemmas.List.Elements.{Contains-push, Contains-append_left,
 use Rattle.std.proofs.lemmas.Slice.Eq.{bytes_eq-Decides}
 use Rattle.std.proofs.lemmas.Bool.{false≢true}
 use Rattle.c_tree.specs.Grammar.{IsFree}
-use Rattle.c_expr.specs.Readers.{is_type_name}
+use Rattle.c_expr.specs.inner.Readers.{is_type_name}
 
 none_contains : (x : List ℕ) → Contains [] x → ⊥
 none_contains x h = let below = h.1 in omega arith
 
--- the front name is it, or one behind
+-- the first name is it, or one behind
 first_or : (name : List ℕ) (names : List (List ℕ)) (x : List ℕ) → Contains (name ∷ names) x → (name ≡ x) ⊎ Contains names x
 first_or name names x h = elim (Contains-append_cases (name ∷ []) names x h) [
   | inl first ↦ elim (Contains-push_cases [] name x first) [ inl none ↦ absurd (none_contains x none) | inr is ↦ inl is ]

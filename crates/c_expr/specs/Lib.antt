@@ -1,5 +1,4 @@
-pub mod Parser
-pub mod Readers
-pub mod Laws
-pub mod Reads
-pub mod Nests
+pub mod FirstTokens
+pub mod LongestExpression
+pub mod Theorems
+pub mod inner

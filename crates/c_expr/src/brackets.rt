@@ -1,7 +1,7 @@
 //! What stands in the parentheses of a declarator.
 
 ghost use Rattle.std.specs.Prelude.{◌≡◌, ◌<◌, ◌^◌, IfOk};
-ghost use Rattle.c_expr.specs.Readers as reader;
+ghost use Rattle.c_expr.specs.inner.Readers as reader;
 
 use c_tree::{Declarator, Direct, Suffix};
 use c_types::Name;

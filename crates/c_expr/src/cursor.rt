@@ -3,8 +3,8 @@
 ghost use Rattle.std.specs.Prelude.{◌≡◌, ◌<◌, ◌≤◌, ◌^◌, length};
 ghost use Rattle.std.specs.Option.{option_copied};
 ghost use Rattle.c_tree.specs.Marks.{kinds_of};
-ghost use Rattle.c_expr.specs.Parser as parser;
-ghost use Rattle.c_expr.specs.Reads.{Reads};
+ghost use Rattle.c_expr.specs.inner.Parser as parser;
+ghost use Rattle.c_expr.specs.inner.Reads.{Reads};
 
 use crate::error::Failure;
 use c_tokens::{Keyword, Kind, Mark, Token};
@@ -29,7 +29,7 @@ impl<'a> Model for Cursor<'a> {
 }
 
 /// Whether this is the mark.
-#[tactic(auto, unfolding(crate::specs::Parser::same_mark))]
+#[tactic(auto, unfolding(crate::specs::inner::Parser::same_mark))]
 pub(crate) fn is_mark(kind: &Kind, mark: Mark) -> bool
     ensures { result ≡ parser.is_mark mark kind.now }
 {
@@ -40,7 +40,7 @@ pub(crate) fn is_mark(kind: &Kind, mark: Mark) -> bool
 }
 
 /// Whether this is the word.
-#[tactic(auto, unfolding(crate::specs::Parser::same_word))]
+#[tactic(auto, unfolding(crate::specs::inner::Parser::same_word))]
 pub(crate) fn is_word(kind: &Kind, word: Keyword) -> bool
     ensures { result ≡ parser.is_word word kind.now }
 {
@@ -116,7 +116,7 @@ impl<'a> Cursor<'a> {
     }
 
     /// Takes the mark, if it comes next.
-    #[tactic(auto, unfolding(crate::specs::Parser::after))]
+    #[tactic(auto, unfolding(crate::specs::inner::Parser::after))]
     pub fn eat(&mut self, mark: Mark) -> bool
         ensures found { result ≡ parser.sees mark self.old }
         ensures after { self.new ≡ parser.after mark self.old }
@@ -129,7 +129,7 @@ impl<'a> Cursor<'a> {
     }
 
     /// Takes the mark, which must come next.
-    #[tactic(auto, unfolding(crate::specs::Parser::expect, crate::specs::Parser::after))]
+    #[tactic(auto, unfolding(crate::specs::inner::Parser::expect, crate::specs::inner::Parser::after))]
     pub fn expect(&mut self, mark: Mark) -> Result<(), Failure>
         ensures { Reads (parser.expect mark self.old) result self.new }
     {

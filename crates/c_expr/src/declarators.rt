@@ -1,18 +1,18 @@
 //! Declarators with a name.
 
 ghost use Rattle.std.specs.Prelude.{◌≡◌, ◌≤◌, ◌+◌, ◌-◌, IfOk};
-ghost use Rattle.c_expr.specs.Nests.{Nests, below};
-ghost use Rattle.c_expr.specs.Parser.{separated};
-ghost use Rattle.c_expr.specs.Readers as reader;
-ghost use Rattle.c_expr.specs.Readers.{readers};
-ghost use Rattle.c_expr.specs.Reads.{Reads};
+ghost use Rattle.c_expr.specs.inner.Nests.{Nests, below};
+ghost use Rattle.c_expr.specs.inner.Parser.{separated};
+ghost use Rattle.c_expr.specs.inner.Readers as reader;
+ghost use Rattle.c_expr.specs.inner.Readers.{readers};
+ghost use Rattle.c_expr.specs.inner.Reads.{Reads};
 
 use crate::brackets::{Bracketed, Core, formed, whole_of};
 use crate::cursor::Cursor;
 use crate::error::Failure;
-use crate::front::{free_name, opened};
 use crate::grammar::Grammar;
 use crate::level::GREATEST_PAIRS;
+use crate::lookahead::{free_name, opened};
 use crate::names::Names;
 use c_tokens::Mark;
 use c_tree::{Declarator, Expr, Params};
@@ -25,10 +25,10 @@ where
     G: Fn(Global, &Names, &mut Cursor<'_>, usize) -> Result<(Params, usize), Failure> + Copy,
 {
     /// The name alone.
-    #[tactic(auto, unfolding(crate::specs::Readers::named))]
+    #[tactic(auto, unfolding(crate::specs::inner::Readers::named))]
     fn named(&self, tokens: &mut Cursor<'_>) -> Result<Bracketed, Failure>
         ensures reads { Reads (reader.named self.now.names.now (below self.now.names.now self.now.depth) tokens.old) result tokens.new }
-        ensures tall { IfOk result (λ b. b.height ≤ 0) }
+        ensures height { IfOk result (λ b. b.height ≤ 0) }
     {
         let name = free_name(self.alloc, self.names, tokens)?;
         Ok(Bracketed {
@@ -39,7 +39,7 @@ where
     }
 
     /// What has these stars before it, with the suffixes behind it.
-    #[tactic(auto, unfolding(crate::specs::Readers::finished))]
+    #[tactic(auto, unfolding(crate::specs::inner::Readers::finished))]
     fn finished(
         &self,
         tokens: &mut Cursor<'_>,
@@ -49,7 +49,7 @@ where
         requires nests { Nests self.now.depth (F.pre self.now.expr) (F.post self.now.expr) (G.pre self.now.params) (G.post self.now.params) }
         requires low { inside.height ≤ 1 + (self.now.depth - 1) }
         ensures reads { Reads (reader.finished self.now.names.now (below self.now.names.now self.now.depth) (self.now.depth - 1) stars inside tokens.old) result tokens.new }
-        ensures tall { IfOk result (λ b. b.height ≤ 1 + (self.now.depth - 1)) }
+        ensures height { IfOk result (λ b. b.height ≤ 1 + (self.now.depth - 1)) }
     {
         let (suffixes, suffix_height) = self.suffixes(tokens)?;
         if stars == 0 && suffixes.is_empty() {
@@ -72,7 +72,7 @@ where
         requires nests { Nests self.now.depth (F.pre self.now.expr) (F.post self.now.expr) (G.pre self.now.params) (G.post self.now.params) }
         requires low { inside.height ≤ 1 + (self.now.depth - 1) }
         ensures reads { Reads (reader.closed self.now.names.now (below self.now.names.now self.now.depth) (self.now.depth - 1) count stars inside tokens.old) result tokens.new }
-        ensures tall { IfOk result (λ b. b.height ≤ 1 + (self.now.depth - 1)) }
+        ensures height { IfOk result (λ b. b.height ≤ 1 + (self.now.depth - 1)) }
     {
         let mut its_stars = stars;
         let mut whole = inside;
@@ -93,7 +93,7 @@ where
     fn inner_direct(&self, tokens: &mut Cursor<'_>) -> Result<Bracketed, Failure>
         requires nests { Nests self.now.depth (F.pre self.now.expr) (F.post self.now.expr) (G.pre self.now.params) (G.post self.now.params) }
         ensures reads { Reads ((below self.now.names.now self.now.depth).direct tokens.old) result tokens.new }
-        ensures tall { IfOk result (λ b. b.height ≤ 1 + (self.now.depth - 1)) }
+        ensures height { IfOk result (λ b. b.height ≤ 1 + (self.now.depth - 1)) }
     {
         if self.depth == 0 {
             return Err(Failure::Mismatch);
@@ -106,7 +106,7 @@ where
     fn name_behind(&self, tokens: &mut Cursor<'_>, stars: u32) -> Result<Bracketed, Failure>
         requires nests { Nests self.now.depth (F.pre self.now.expr) (F.post self.now.expr) (G.pre self.now.params) (G.post self.now.params) }
         ensures reads { Reads (reader.direct_behind self.now.names.now (below self.now.names.now self.now.depth) (reader.named self.now.names.now (below self.now.names.now self.now.depth)) stars tokens.old) result tokens.new }
-        ensures tall { IfOk result (λ b. b.height ≤ 1 + (self.now.depth - 1)) }
+        ensures height { IfOk result (λ b. b.height ≤ 1 + (self.now.depth - 1)) }
     {
         if stars == 0 {
             self.named(tokens)
@@ -117,11 +117,11 @@ where
 
     /// A name, or a declarator in parentheses.
     #[cycle(direct)]
-    #[tactic(auto, unfolding(crate::specs::Readers::direct))]
+    #[tactic(auto, unfolding(crate::specs::inner::Readers::direct))]
     fn direct(&self, tokens: &mut Cursor<'_>) -> Result<Bracketed, Failure>
         requires nests { Nests self.now.depth (F.pre self.now.expr) (F.post self.now.expr) (G.pre self.now.params) (G.post self.now.params) }
         ensures reads { Reads (reader.direct self.now.names.now (below self.now.names.now self.now.depth) (self.now.depth - 1) tokens.old) result tokens.new }
-        ensures tall { IfOk result (λ b. b.height ≤ 1 + (self.now.depth - 1)) }
+        ensures height { IfOk result (λ b. b.height ≤ 1 + (self.now.depth - 1)) }
     {
         let count = opened(self.names, tokens);
         if count == 0 {
@@ -136,7 +136,7 @@ where
     fn direct_behind(&self, tokens: &mut Cursor<'_>, stars: u32) -> Result<Bracketed, Failure>
         requires nests { Nests self.now.depth (F.pre self.now.expr) (F.post self.now.expr) (G.pre self.now.params) (G.post self.now.params) }
         ensures reads { Reads (reader.direct_behind self.now.names.now (below self.now.names.now self.now.depth) (reader.direct self.now.names.now (below self.now.names.now self.now.depth) (self.now.depth - 1)) stars tokens.old) result tokens.new }
-        ensures tall { IfOk result (λ b. b.height ≤ 1 + (self.now.depth - 1)) }
+        ensures height { IfOk result (λ b. b.height ≤ 1 + (self.now.depth - 1)) }
     {
         if stars == 0 {
             self.direct(tokens)
@@ -146,11 +146,11 @@ where
     }
 
     /// A declarator.
-    #[tactic(auto, unfolding(crate::specs::Readers::declarator))]
+    #[tactic(auto, unfolding(crate::specs::inner::Readers::declarator))]
     pub fn declarator(&self, tokens: &mut Cursor<'_>) -> Result<(Declarator, usize), Failure>
         requires nests { Nests self.now.depth (F.pre self.now.expr) (F.post self.now.expr) (G.pre self.now.params) (G.post self.now.params) }
         ensures reads { Reads ((readers self.now.names.now self.now.depth).declarator tokens.old) result tokens.new }
-        ensures tall { IfOk result (λ d. d.1 ≤ self.now.depth) }
+        ensures height { IfOk result (λ d. d.1 ≤ self.now.depth) }
     {
         if self.depth == 0 {
             return Err(Failure::Mismatch);
@@ -168,7 +168,7 @@ where
     ) -> Result<(Items<Declarator>, usize), Failure>
         requires nests { Nests self.now.depth (F.pre self.now.expr) (F.post self.now.expr) (G.pre self.now.params) (G.post self.now.params) }
         ensures reads { Reads (separated (readers self.now.names.now self.now.depth).declarator tokens.old) result tokens.new }
-        ensures tall { IfOk result (λ ds. ds.1 ≤ self.now.depth) }
+        ensures height { IfOk result (λ ds. ds.1 ≤ self.now.depth) }
     {
         let mut found = Items::new(self.alloc);
         let mut height = 0;

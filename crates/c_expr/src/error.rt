@@ -1,3 +1,5 @@
+//! Why nothing was read.
+
 use std::alloc::AllocError;
 use thiserror::Error;
 

@@ -1,19 +1,19 @@
 //! Expressions, by precedence climbing.
 
 ghost use Rattle.std.specs.Prelude.{◌≡◌, ◌≤◌, ◌<◌, ◌+◌, ◌-◌, ◌^◌, IfOk, IfSome};
-ghost use Rattle.c_expr.specs.Parser.{separated};
-ghost use Rattle.c_expr.specs.Nests.{Nests, below, in_pair};
-ghost use Rattle.c_expr.specs.Readers as reader;
-ghost use Rattle.c_expr.specs.Reads.{Reads};
+ghost use Rattle.c_expr.specs.inner.Parser.{separated};
+ghost use Rattle.c_expr.specs.inner.Nests.{Nests, below, in_pair};
+ghost use Rattle.c_expr.specs.inner.Readers as reader;
+ghost use Rattle.c_expr.specs.inner.Reads.{Reads};
 
 use crate::cursor::Cursor;
 use crate::error::Failure;
-use crate::front::{free_name, name_of, opened, opens_type};
 use crate::grammar::Grammar;
 use crate::level::{
     ASSIGN_LEVEL, CAST_LEVEL, CONDITIONAL_LEVEL, GREATEST_PAIRS, UNARY_LEVEL, binary_level,
     continuation, left_level, whole_level,
 };
+use crate::lookahead::{free_name, name_of, opened, opens_type};
 use crate::names::Names;
 use crate::operand::{Continuation, Operand, Part, bracketed, extended};
 use c_tokens::{Keyword, Kind, Mark};
@@ -30,7 +30,7 @@ where
     fn expressions(&self, tokens: &mut Cursor<'_>) -> Result<(Items<Expr>, usize), Failure>
         requires { Nests self.now.depth (F.pre self.now.expr) (F.post self.now.expr) (G.pre self.now.params) (G.post self.now.params) }
         ensures reads { Reads (separated ((below self.now.names.now self.now.depth).expr 0) tokens.old) result tokens.new }
-        ensures tall { IfOk result (λ es. es.1 ≤ self.now.depth - 1) }
+        ensures height { IfOk result (λ es. es.1 ≤ self.now.depth - 1) }
     {
         let mut found = Items::new(self.alloc);
         let mut height = 0;
@@ -46,11 +46,11 @@ where
     }
 
     /// The arguments of a call, behind its `(`.
-    #[tactic(auto, unfolding(crate::specs::Readers::arguments))]
+    #[tactic(auto, unfolding(crate::specs::inner::Readers::arguments))]
     fn arguments(&self, tokens: &mut Cursor<'_>) -> Result<(Items<Expr>, usize), Failure>
         requires { Nests self.now.depth (F.pre self.now.expr) (F.post self.now.expr) (G.pre self.now.params) (G.post self.now.params) }
         ensures reads { Reads (reader.arguments self.now.names.now (below self.now.names.now self.now.depth) tokens.old) result tokens.new }
-        ensures tall { IfOk result (λ es. es.1 ≤ self.now.depth - 1) }
+        ensures height { IfOk result (λ es. es.1 ≤ self.now.depth - 1) }
     {
         if tokens.eat(Mark::RightParenthesis) {
             return Ok((Items::new(self.alloc), 0));
@@ -61,11 +61,11 @@ where
     }
 
     /// What stands behind a `[`.
-    #[tactic(auto, unfolding(crate::specs::Readers::index))]
+    #[tactic(auto, unfolding(crate::specs::inner::Readers::index))]
     fn index(&self, tokens: &mut Cursor<'_>) -> Result<(Part, usize), Failure>
         requires { Nests self.now.depth (F.pre self.now.expr) (F.post self.now.expr) (G.pre self.now.params) (G.post self.now.params) }
         ensures reads { Reads (reader.index self.now.names.now (below self.now.names.now self.now.depth) tokens.old) result tokens.new }
-        ensures tall { IfOk result (λ p. p.1 ≤ self.now.depth - 1) }
+        ensures height { IfOk result (λ p. p.1 ≤ self.now.depth - 1) }
     {
         let (at, height) = self.inner_boxed(tokens, ASSIGN_LEVEL)?;
         tokens.expect(Mark::RightBracket)?;
@@ -73,11 +73,11 @@ where
     }
 
     /// What stands behind a `?`.
-    #[tactic(auto, unfolding(crate::specs::Readers::arms))]
+    #[tactic(auto, unfolding(crate::specs::inner::Readers::arms))]
     fn arms(&self, tokens: &mut Cursor<'_>) -> Result<(Part, usize), Failure>
         requires { Nests self.now.depth (F.pre self.now.expr) (F.post self.now.expr) (G.pre self.now.params) (G.post self.now.params) }
         ensures reads { Reads (reader.arms self.now.names.now (below self.now.names.now self.now.depth) tokens.old) result tokens.new }
-        ensures tall { IfOk result (λ p. p.1 ≤ self.now.depth - 1) }
+        ensures height { IfOk result (λ p. p.1 ≤ self.now.depth - 1) }
     {
         let (first, first_height) = self.inner_boxed(tokens, ASSIGN_LEVEL)?;
         tokens.expect(Mark::Colon)?;
@@ -89,11 +89,11 @@ where
     }
 
     /// What an operand goes on with, behind the mark.
-    #[tactic(auto, unfolding(crate::specs::Readers::part))]
+    #[tactic(auto, unfolding(crate::specs::inner::Readers::part))]
     fn part(&self, tokens: &mut Cursor<'_>, next: Continuation) -> Result<(Part, usize), Failure>
         requires { Nests self.now.depth (F.pre self.now.expr) (F.post self.now.expr) (G.pre self.now.params) (G.post self.now.params) }
         ensures reads { Reads (reader.part self.now.names.now (below self.now.names.now self.now.depth) next tokens.old) result tokens.new }
-        ensures tall { IfOk result (λ p. p.1 ≤ self.now.depth - 1) }
+        ensures height { IfOk result (λ p. p.1 ≤ self.now.depth - 1) }
     {
         match next {
             Continuation::Index => self.index(tokens),
@@ -124,7 +124,7 @@ where
     }
 
     /// What the operand goes on with, at these levels.
-    #[tactic(auto, unfolding(crate::specs::Readers::going_on))]
+    #[tactic(auto, unfolding(crate::specs::inner::Readers::going_on))]
     fn going_on(&self, tokens: &Cursor<'_>, least: usize, operand: &Operand) -> Option<Continuation>
         ensures is { result ≡ reader.going_on (self.now.depth - 1) least operand.now tokens.now }
         ensures low { IfSome result (λ _. operand.now.height ≤ self.now.depth - 1) }
@@ -153,7 +153,7 @@ where
         requires nests { Nests self.now.depth (F.pre self.now.expr) (F.post self.now.expr) (G.pre self.now.params) (G.post self.now.params) }
         requires low { operand.height ≤ 1 + (self.now.depth - 1) }
         ensures reads { Reads (reader.grow self.now.names.now (below self.now.names.now self.now.depth) (self.now.depth - 1) least operand tokens.old) result tokens.new }
-        ensures tall { IfOk result (λ o. o.height ≤ 1 + (self.now.depth - 1)) }
+        ensures height { IfOk result (λ o. o.height ≤ 1 + (self.now.depth - 1)) }
     {
         let mut whole = operand;
         for _turn in 0..tokens.left() {
@@ -175,12 +175,12 @@ where
     }
 
     /// The operand in the parentheses that are open round it.
-    #[tactic(auto, unfolding(crate::specs::Nests::in_pair))]
+    #[tactic(auto, unfolding(crate::specs::inner::Nests::in_pair))]
     fn in_pair(&self, tokens: &mut Cursor<'_>, operand: Operand) -> Result<Operand, Failure>
         requires nests { Nests self.now.depth (F.pre self.now.expr) (F.post self.now.expr) (G.pre self.now.params) (G.post self.now.params) }
         requires low { operand.height ≤ 1 + (self.now.depth - 1) }
         ensures reads { Reads (in_pair self.now.names.now (below self.now.names.now self.now.depth) (self.now.depth - 1) operand tokens.old) result tokens.new }
-        ensures tall { IfOk result (λ o. o.height ≤ 1 + (self.now.depth - 1)) }
+        ensures height { IfOk result (λ o. o.height ≤ 1 + (self.now.depth - 1)) }
     {
         let whole = self.grow(tokens, ASSIGN_LEVEL, operand)?;
         tokens.expect(Mark::RightParenthesis)?;
@@ -202,7 +202,7 @@ where
         requires nests { Nests self.now.depth (F.pre self.now.expr) (F.post self.now.expr) (G.pre self.now.params) (G.post self.now.params) }
         requires low { operand.height ≤ 1 + (self.now.depth - 1) }
         ensures reads { Reads (reader.close self.now.names.now (below self.now.names.now self.now.depth) (self.now.depth - 1) least pairs operand tokens.old) result tokens.new }
-        ensures tall { IfOk result (λ e. e.1 ≤ 1 + (self.now.depth - 1)) }
+        ensures height { IfOk result (λ e. e.1 ≤ 1 + (self.now.depth - 1)) }
     {
         let mut whole = operand;
         for _pair in 0..pairs {
@@ -217,11 +217,11 @@ where
     }
 
     /// What stands behind `sizeof`.
-    #[tactic(auto, unfolding(crate::specs::Readers::sizeof))]
+    #[tactic(auto, unfolding(crate::specs::inner::Readers::sizeof))]
     fn sizeof(&self, tokens: &mut Cursor<'_>) -> Result<Operand, Failure>
         requires { Nests self.now.depth (F.pre self.now.expr) (F.post self.now.expr) (G.pre self.now.params) (G.post self.now.params) }
         ensures reads { Reads (reader.sizeof self.now.names.now (below self.now.names.now self.now.depth) tokens.old) result tokens.new }
-        ensures tall { IfOk result (λ o. o.height ≤ 1 + (self.now.depth - 1)) }
+        ensures height { IfOk result (λ o. o.height ≤ 1 + (self.now.depth - 1)) }
     {
         if opens_type(self.names, tokens) {
             tokens.expect(Mark::LeftParenthesis)?;
@@ -234,11 +234,11 @@ where
     }
 
     /// What stands behind the `(` of a cast.
-    #[tactic(auto, unfolding(crate::specs::Readers::cast))]
+    #[tactic(auto, unfolding(crate::specs::inner::Readers::cast))]
     fn cast(&self, tokens: &mut Cursor<'_>) -> Result<Operand, Failure>
         requires { Nests self.now.depth (F.pre self.now.expr) (F.post self.now.expr) (G.pre self.now.params) (G.post self.now.params) }
         ensures reads { Reads (reader.cast self.now.names.now (below self.now.names.now self.now.depth) tokens.old) result tokens.new }
-        ensures tall { IfOk result (λ o. o.height ≤ 1 + (self.now.depth - 1)) }
+        ensures height { IfOk result (λ o. o.height ≤ 1 + (self.now.depth - 1)) }
     {
         let (word, word_height) = self.inner_type_word(tokens)?;
         tokens.expect(Mark::RightParenthesis)?;
@@ -251,22 +251,22 @@ where
     }
 
     /// What stands behind a unary operator.
-    #[tactic(auto, unfolding(crate::specs::Readers::unary_behind))]
+    #[tactic(auto, unfolding(crate::specs::inner::Readers::unary_behind))]
     fn unary_behind(&self, tokens: &mut Cursor<'_>, op: UnaryOperator) -> Result<Operand, Failure>
         requires { Nests self.now.depth (F.pre self.now.expr) (F.post self.now.expr) (G.pre self.now.params) (G.post self.now.params) }
         ensures reads { Reads (reader.unary_behind self.now.names.now (below self.now.names.now self.now.depth) op tokens.old) result tokens.new }
-        ensures tall { IfOk result (λ o. o.height ≤ 1 + (self.now.depth - 1)) }
+        ensures height { IfOk result (λ o. o.height ≤ 1 + (self.now.depth - 1)) }
     {
         let (inside, height) = self.inner_boxed(tokens, CAST_LEVEL)?;
         Ok(Operand::new(UNARY_LEVEL, Expr::Unary(op, inside), 1 + height))
     }
 
     /// What stands behind a mark that begins an expression.
-    #[tactic(auto, unfolding(crate::specs::Readers::prefix))]
-    fn prefix(&self, tokens: &mut Cursor<'_>, mark: Mark) -> Result<Operand, Failure>
+    #[tactic(auto, unfolding(crate::specs::inner::Readers::prefixed))]
+    fn prefixed(&self, tokens: &mut Cursor<'_>, mark: Mark) -> Result<Operand, Failure>
         requires { Nests self.now.depth (F.pre self.now.expr) (F.post self.now.expr) (G.pre self.now.params) (G.post self.now.params) }
-        ensures reads { Reads (reader.prefix self.now.names.now (below self.now.names.now self.now.depth) mark tokens.old) result tokens.new }
-        ensures tall { IfOk result (λ o. o.height ≤ 1 + (self.now.depth - 1)) }
+        ensures reads { Reads (reader.prefixed self.now.names.now (below self.now.names.now self.now.depth) mark tokens.old) result tokens.new }
+        ensures height { IfOk result (λ o. o.height ≤ 1 + (self.now.depth - 1)) }
     {
         match mark {
             Mark::LeftParenthesis => self.cast(tokens),
@@ -287,12 +287,12 @@ where
         }
     }
 
-    /// The front of an expression: a primary without parentheses, or a prefix and its operand.
-    #[tactic(auto, unfolding(crate::specs::Readers::head))]
+    /// What begins an expression: a primary without parentheses, or a prefix operator and its operand.
+    #[tactic(auto, unfolding(crate::specs::inner::Readers::head))]
     fn head(&self, tokens: &mut Cursor<'_>) -> Result<Operand, Failure>
         requires { Nests self.now.depth (F.pre self.now.expr) (F.post self.now.expr) (G.pre self.now.params) (G.post self.now.params) }
         ensures reads { Reads (reader.head self.now.names.now (below self.now.names.now self.now.depth) tokens.old) result tokens.new }
-        ensures tall { IfOk result (λ o. o.height ≤ 1 + (self.now.depth - 1)) }
+        ensures height { IfOk result (λ o. o.height ≤ 1 + (self.now.depth - 1)) }
     {
         let Some(kind) = tokens.peek() else {
             return Err(Failure::Mismatch);
@@ -312,16 +312,16 @@ where
             }
             Kind::Word(Keyword::Sizeof) => self.sizeof(tokens),
             Kind::Word(_) => Err(Failure::Mismatch),
-            Kind::Mark(mark) => self.prefix(tokens, *mark),
+            Kind::Mark(mark) => self.prefixed(tokens, *mark),
         }
     }
 
     /// An expression of this level or a tighter one.
-    #[tactic(auto, unfolding(crate::specs::Readers::level, crate::specs::Readers::level_in))]
+    #[tactic(auto, unfolding(crate::specs::inner::Readers::level, crate::specs::inner::Readers::level_in))]
     pub fn level(&self, tokens: &mut Cursor<'_>, least: usize) -> Result<(Expr, usize), Failure>
         requires { Nests self.now.depth (F.pre self.now.expr) (F.post self.now.expr) (G.pre self.now.params) (G.post self.now.params) }
         ensures reads { Reads (reader.level self.now.names.now (below self.now.names.now self.now.depth) (self.now.depth - 1) least tokens.old) result tokens.new }
-        ensures tall { IfOk result (λ e. e.1 ≤ 1 + (self.now.depth - 1)) }
+        ensures height { IfOk result (λ e. e.1 ≤ 1 + (self.now.depth - 1)) }
     {
         let pairs = opened(self.names, tokens);
         let first = self.head(tokens)?;

@@ -2,9 +2,9 @@
 //! is proved by itself.
 
 ghost use Rattle.std.specs.Prelude.{◌≡◌, ◌≤◌, ◌<◌, ◌-◌, IfOk};
-ghost use Rattle.c_expr.specs.Nests.{Nests, below};
-ghost use Rattle.c_expr.specs.Readers.{readers};
-ghost use Rattle.c_expr.specs.Reads.{Reads};
+ghost use Rattle.c_expr.specs.inner.Nests.{Nests, below};
+ghost use Rattle.c_expr.specs.inner.Readers.{readers};
+ghost use Rattle.c_expr.specs.inner.Reads.{Reads};
 
 use crate::cursor::Cursor;
 use crate::error::Failure;
@@ -39,7 +39,7 @@ where
     ) -> Result<(Expr, usize), Failure>
         requires { Nests self.now.depth (F.pre self.now.expr) (F.post self.now.expr) (G.pre self.now.params) (G.post self.now.params) }
         ensures reads { Reads ((below self.now.names.now self.now.depth).expr least tokens.old) result tokens.new }
-        ensures tall { IfOk result (λ e. e.1 ≤ self.now.depth - 1) }
+        ensures height { IfOk result (λ e. e.1 ≤ self.now.depth - 1) }
     {
         if self.depth == 0 {
             return Err(Failure::Mismatch);
@@ -55,7 +55,7 @@ where
     ) -> Result<(Boxed<Expr>, usize), Failure>
         requires { Nests self.now.depth (F.pre self.now.expr) (F.post self.now.expr) (G.pre self.now.params) (G.post self.now.params) }
         ensures reads { Reads ((below self.now.names.now self.now.depth).expr least tokens.old) result tokens.new }
-        ensures tall { IfOk result (λ e. e.1 ≤ self.now.depth - 1) }
+        ensures height { IfOk result (λ e. e.1 ≤ self.now.depth - 1) }
     {
         let (expr, height) = self.inner_expr(tokens, least)?;
         Ok((Boxed::new(self.alloc, expr)?, height))
@@ -65,7 +65,7 @@ where
     pub fn inner_params(&self, tokens: &mut Cursor<'_>) -> Result<(Params, usize), Failure>
         requires { Nests self.now.depth (F.pre self.now.expr) (F.post self.now.expr) (G.pre self.now.params) (G.post self.now.params) }
         ensures reads { Reads ((below self.now.names.now self.now.depth).params tokens.old) result tokens.new }
-        ensures tall { IfOk result (λ p. p.1 ≤ self.now.depth - 1) }
+        ensures height { IfOk result (λ p. p.1 ≤ self.now.depth - 1) }
     {
         if self.depth == 0 {
             return Err(Failure::Mismatch);
@@ -74,7 +74,7 @@ where
     }
 
     /// The rules of the depth below.
-    #[tactic(auto, using(crate::proofs::Depths::below_more))]
+    #[tactic(auto, using(crate::proofs::ReadersLemmas::below_more))]
     pub fn inner(&self) -> Grammar<'n, F, G>
         requires some { 0 < self.now.depth }
         requires nests { Nests self.now.depth (F.pre self.now.expr) (F.post self.now.expr) (G.pre self.now.params) (G.post self.now.params) }

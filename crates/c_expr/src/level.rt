@@ -2,7 +2,7 @@
 
 ghost use Rattle.std.specs.Prelude.{◌≡◌, ◌≤◌};
 ghost use Rattle.c_tree.specs.Marks as marks;
-ghost use Rattle.c_expr.specs.Readers as reader;
+ghost use Rattle.c_expr.specs.inner.Readers as reader;
 
 use crate::operand::Continuation;
 use c_tokens::Mark;

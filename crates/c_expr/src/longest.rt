@@ -2,11 +2,11 @@
 
 ghost use Rattle.std.specs.Prelude.{◌≡◌, ◌-◌, ◌<◌, ◌≤◌, ◌^◌, length, drop, IfOk, IfSome, IfNone};
 ghost use Rattle.c_tree.specs.Marks.{kinds_of};
-ghost use Rattle.c_expr.specs.Laws.{IsLongestExpression, BeginsNoExpression};
+ghost use Rattle.c_expr.specs.LongestExpression.{IsLongestExpression, BeginsNoExpression};
 
 use crate::cursor::Cursor;
+use crate::depths::expr;
 use crate::error::Failure;
-use crate::knot::expr;
 use crate::level::ASSIGN_LEVEL;
 use crate::names::Names;
 use c_tokens::Tokens;
@@ -14,8 +14,8 @@ use c_tree::{Expr, TypeNames};
 use c_types::copy_name;
 use std::alloc::{AllocError, Global};
 
-/// The longest front of the tokens from `at` on that is an expression whose nodes are at most `depth` deep, and the
-/// place behind it; none where no front is one. `names` are the type names that stand only as types.
+/// The longest prefix of the tokens from `at` on that is an expression whose nodes are at most `depth` deep, and the
+/// place behind it; none where no prefix is one. `names` are the type names that stand only as types.
 ///
 /// The tokens are fewer than 2^31.
 ///

@@ -4,7 +4,7 @@ ghost use Rattle.std.specs.Prelude.{◌≡◌, ℕ, List, [], ◌∷◌, ◌++�
 ghost use Rattle.std.specs.BTreeSet.{contains_by};
 ghost use Rattle.std.specs.Cmp.Lexicographic.{slice_cmp};
 ghost use Rattle.std.specs.Ordering.{nat_cmp};
-ghost use Rattle.c_expr.specs.Readers.{is_type_name};
+ghost use Rattle.c_expr.specs.inner.Readers.{is_type_name};
 
 use c_types::Name;
 use sqlite_items::Items;

@@ -1,5 +1,7 @@
+//! Operands, and what they go on with.
+
 ghost use Rattle.std.specs.Prelude.{◌≡◌, ◌+◌, ◌<◌, ◌^◌, max, IfOk};
-ghost use Rattle.c_expr.specs.Readers as reader;
+ghost use Rattle.c_expr.specs.inner.Readers as reader;
 
 use crate::level::{ASSIGN_LEVEL, CONDITIONAL_LEVEL, POSTFIX_LEVEL, PRIMARY_LEVEL, binary_level};
 use c_tree::{AssignOperator, BinaryOperator, Expr};
@@ -102,7 +104,7 @@ fn with_part(left: Boxed<Expr>, part: Part) -> Expr
 }
 
 /// The operand with what goes on behind it, which is so high.
-#[tactic(auto, unfolding(crate::specs::Readers::extended))]
+#[tactic(auto, unfolding(crate::specs::inner::Readers::extended))]
 pub(crate) fn extended(
     alloc: Global,
     operand: Operand,
@@ -112,7 +114,7 @@ pub(crate) fn extended(
     requires low { operand.height < 2 ^ 32 }
     requires part_low { height < 2 ^ 32 }
     ensures is { IfOk result (λ o. o ≡ reader.extended operand (part, height)) }
-    ensures tall { IfOk result (λ o. o.height ≡ 1 + max operand.height height) }
+    ensures height { IfOk result (λ o. o.height ≡ 1 + max operand.height height) }
 {
     let level = part_level(&part);
     let height = 1 + operand.height.max(height);
@@ -121,11 +123,11 @@ pub(crate) fn extended(
 }
 
 /// The operand in one more pair of parentheses.
-#[tactic(auto, unfolding(crate::specs::Readers::bracketed))]
+#[tactic(auto, unfolding(crate::specs::inner::Readers::bracketed))]
 pub(crate) fn bracketed(operand: Operand) -> Operand
     requires { operand.pairs < 2 ^ 32 }
     ensures is { result ≡ reader.bracketed operand }
-    ensures tall { result.height ≡ operand.height }
+    ensures height { result.height ≡ operand.height }
 {
     Operand {
         level: PRIMARY_LEVEL,

@@ -1,16 +1,16 @@
 //! Specs, type words and parameters.
 
 ghost use Rattle.std.specs.Prelude.{◌≡◌, ◌≤◌, ◌<◌, ◌+◌, ◌-◌, IfOk};
-ghost use Rattle.c_expr.specs.Nests.{Nests, below};
-ghost use Rattle.c_expr.specs.Parser.{separated};
-ghost use Rattle.c_expr.specs.Readers as reader;
-ghost use Rattle.c_expr.specs.Readers.{readers};
-ghost use Rattle.c_expr.specs.Reads.{Reads};
+ghost use Rattle.c_expr.specs.inner.Nests.{Nests, below};
+ghost use Rattle.c_expr.specs.inner.Parser.{separated};
+ghost use Rattle.c_expr.specs.inner.Readers as reader;
+ghost use Rattle.c_expr.specs.inner.Readers.{readers};
+ghost use Rattle.c_expr.specs.inner.Reads.{Reads};
 
 use crate::cursor::{Cursor, is_word};
 use crate::error::Failure;
-use crate::front::{free_name, looks_named, name_of};
 use crate::grammar::Grammar;
+use crate::lookahead::{free_name, looks_named, name_of};
 use crate::names::Names;
 use c_tokens::{Keyword, Kind, Mark};
 use c_tree::{Expr, MemberDecl, Param, Params, Spec, TypeWord};
@@ -25,11 +25,11 @@ where
 {
     /// One line of a struct's body.
     #[cycle(spec)]
-    #[tactic(auto, unfolding(crate::specs::Readers::member))]
+    #[tactic(auto, unfolding(crate::specs::inner::Readers::member))]
     fn member(&self, tokens: &mut Cursor<'_>) -> Result<(MemberDecl, usize), Failure>
         requires nests { Nests self.now.depth (F.pre self.now.expr) (F.post self.now.expr) (G.pre self.now.params) (G.post self.now.params) }
         ensures reads { Reads (reader.member self.now.names.now (below self.now.names.now self.now.depth) tokens.old) result tokens.new }
-        ensures tall { IfOk result (λ m. m.1 < self.now.depth) }
+        ensures height { IfOk result (λ m. m.1 < self.now.depth) }
     {
         if self.depth == 0 {
             return Err(Failure::Mismatch);
@@ -46,7 +46,7 @@ where
     fn members(&self, tokens: &mut Cursor<'_>) -> Result<(Items<MemberDecl>, usize), Failure>
         requires nests { Nests self.now.depth (F.pre self.now.expr) (F.post self.now.expr) (G.pre self.now.params) (G.post self.now.params) }
         ensures reads { Reads (reader.members self.now.names.now (below self.now.names.now self.now.depth) tokens.old) result tokens.new }
-        ensures tall { IfOk result (λ ms. ms.1 < self.now.depth) }
+        ensures height { IfOk result (λ ms. ms.1 < self.now.depth) }
     {
         let mut found = Items::new(self.alloc);
         let mut height = 0;
@@ -63,11 +63,11 @@ where
 
     /// The body of the struct of this tag.
     #[cycle(spec)]
-    #[tactic(auto, unfolding(crate::specs::Readers::struct_body))]
+    #[tactic(auto, unfolding(crate::specs::inner::Readers::struct_body))]
     fn struct_body(&self, tokens: &mut Cursor<'_>, tag: Name) -> Result<(Spec, usize), Failure>
         requires nests { Nests self.now.depth (F.pre self.now.expr) (F.post self.now.expr) (G.pre self.now.params) (G.post self.now.params) }
         ensures reads { Reads (reader.struct_body self.now.names.now (below self.now.names.now self.now.depth) tag tokens.old) result tokens.new }
-        ensures tall { IfOk result (λ s. s.1 ≤ self.now.depth) }
+        ensures height { IfOk result (λ s. s.1 ≤ self.now.depth) }
     {
         tokens.expect(Mark::LeftBrace)?;
         let (members, height) = self.members(tokens)?;
@@ -79,7 +79,7 @@ where
     fn struct_spec(&self, tokens: &mut Cursor<'_>, bodies: bool) -> Result<(Spec, usize), Failure>
         requires nests { Nests self.now.depth (F.pre self.now.expr) (F.post self.now.expr) (G.pre self.now.params) (G.post self.now.params) }
         ensures reads { Reads (reader.«struct» self.now.names.now (below self.now.names.now self.now.depth) bodies tokens.old) result tokens.new }
-        ensures tall { IfOk result (λ s. s.1 ≤ self.now.depth) }
+        ensures height { IfOk result (λ s. s.1 ≤ self.now.depth) }
     {
         let tag = free_name(self.alloc, self.names, tokens)?;
         if bodies && tokens.sees(Mark::LeftBrace) {
@@ -91,11 +91,11 @@ where
 
     /// What stands in front of a declarator. It may have bodies of structs, where `bodies` says so.
     #[cycle(spec)]
-    #[tactic(auto, using(crate::proofs::Fields::spec_at), unfolding(crate::specs::Readers::spec))]
+    #[tactic(auto, using(crate::proofs::ReadersLemmas::spec_at), unfolding(crate::specs::inner::Readers::spec))]
     pub fn spec(&self, tokens: &mut Cursor<'_>, bodies: bool) -> Result<(Spec, usize), Failure>
         requires nests { Nests self.now.depth (F.pre self.now.expr) (F.post self.now.expr) (G.pre self.now.params) (G.post self.now.params) }
         ensures reads { Reads ((readers self.now.names.now self.now.depth).spec bodies tokens.old) result tokens.new }
-        ensures tall { IfOk result (λ s. s.1 ≤ self.now.depth) }
+        ensures height { IfOk result (λ s. s.1 ≤ self.now.depth) }
     {
         let Some(kind) = tokens.peek() else {
             return Err(Failure::Mismatch);
@@ -117,11 +117,11 @@ where
     }
 
     /// A type in a cast or a `sizeof`.
-    #[tactic(auto, unfolding(crate::specs::Readers::type_word))]
+    #[tactic(auto, unfolding(crate::specs::inner::Readers::type_word))]
     fn type_word(&self, tokens: &mut Cursor<'_>) -> Result<(TypeWord, usize), Failure>
         requires nests { Nests self.now.depth (F.pre self.now.expr) (F.post self.now.expr) (G.pre self.now.params) (G.post self.now.params) }
         ensures reads { Reads ((readers self.now.names.now self.now.depth).type_word tokens.old) result tokens.new }
-        ensures tall { IfOk result (λ t. t.1 ≤ self.now.depth) }
+        ensures height { IfOk result (λ t. t.1 ≤ self.now.depth) }
     {
         if self.depth == 0 {
             return Err(Failure::Mismatch);
@@ -139,7 +139,7 @@ where
     ) -> Result<(Boxed<TypeWord>, usize), Failure>
         requires { Nests self.now.depth (F.pre self.now.expr) (F.post self.now.expr) (G.pre self.now.params) (G.post self.now.params) }
         ensures reads { Reads ((below self.now.names.now self.now.depth).type_word tokens.old) result tokens.new }
-        ensures tall { IfOk result (λ e. e.1 ≤ self.now.depth - 1) }
+        ensures height { IfOk result (λ e. e.1 ≤ self.now.depth - 1) }
     {
         if self.depth == 0 {
             return Err(Failure::Mismatch);
@@ -149,11 +149,11 @@ where
     }
 
     /// One parameter.
-    #[tactic(auto, unfolding(crate::specs::Readers::param))]
+    #[tactic(auto, unfolding(crate::specs::inner::Readers::param))]
     fn param(&self, tokens: &mut Cursor<'_>) -> Result<(Param, usize), Failure>
         requires nests { Nests self.now.depth (F.pre self.now.expr) (F.post self.now.expr) (G.pre self.now.params) (G.post self.now.params) }
         ensures reads { Reads (reader.param self.now.names.now (readers self.now.names.now self.now.depth).spec (readers self.now.names.now self.now.depth).declarator (readers self.now.names.now self.now.depth).abstract tokens.old) result tokens.new }
-        ensures tall { IfOk result (λ p. p.1 ≤ self.now.depth) }
+        ensures height { IfOk result (λ p. p.1 ≤ self.now.depth) }
     {
         let (spec, spec_height) = self.spec(tokens, true)?;
         if looks_named(self.names, tokens) {
@@ -169,7 +169,7 @@ where
     fn param_list(&self, tokens: &mut Cursor<'_>) -> Result<(Items<Param>, usize), Failure>
         requires nests { Nests self.now.depth (F.pre self.now.expr) (F.post self.now.expr) (G.pre self.now.params) (G.post self.now.params) }
         ensures reads { Reads (separated (reader.param self.now.names.now (readers self.now.names.now self.now.depth).spec (readers self.now.names.now self.now.depth).declarator (readers self.now.names.now self.now.depth).abstract) tokens.old) result tokens.new }
-        ensures tall { IfOk result (λ ps. ps.1 ≤ self.now.depth) }
+        ensures height { IfOk result (λ ps. ps.1 ≤ self.now.depth) }
     {
         let mut found = Items::new(self.alloc);
         let mut height = 0;
@@ -196,11 +196,11 @@ where
     }
 
     /// The parameters of a function, to before the closing parenthesis.
-    #[tactic(auto, unfolding(crate::specs::Readers::params))]
+    #[tactic(auto, unfolding(crate::specs::inner::Readers::params))]
     pub fn parameters(&self, tokens: &mut Cursor<'_>) -> Result<(Params, usize), Failure>
         requires nests { Nests self.now.depth (F.pre self.now.expr) (F.post self.now.expr) (G.pre self.now.params) (G.post self.now.params) }
         ensures reads { Reads ((readers self.now.names.now self.now.depth).params tokens.old) result tokens.new }
-        ensures tall { IfOk result (λ p. p.1 ≤ self.now.depth) }
+        ensures height { IfOk result (λ p. p.1 ≤ self.now.depth) }
     {
         if tokens.sees(Mark::RightParenthesis) {
             return Ok((Params::Nothing, 0));

@@ -1,9 +1,9 @@
 //! What stands behind a declarator.
 
 ghost use Rattle.std.specs.Prelude.{◌≡◌, ◌≤◌, ◌-◌, IfOk};
-ghost use Rattle.c_expr.specs.Nests.{Nests, below};
-ghost use Rattle.c_expr.specs.Readers as reader;
-ghost use Rattle.c_expr.specs.Reads.{Reads};
+ghost use Rattle.c_expr.specs.inner.Nests.{Nests, below};
+ghost use Rattle.c_expr.specs.inner.Readers as reader;
+ghost use Rattle.c_expr.specs.inner.Reads.{Reads};
 
 use crate::cursor::Cursor;
 use crate::error::Failure;
@@ -21,11 +21,11 @@ where
     G: Fn(Global, &Names, &mut Cursor<'_>, usize) -> Result<(Params, usize), Failure> + Copy,
 {
     /// The bound of an array, if there is one, behind its `[`.
-    #[tactic(auto, unfolding(crate::specs::Readers::bound))]
+    #[tactic(auto, unfolding(crate::specs::inner::Readers::bound))]
     fn bound(&self, tokens: &mut Cursor<'_>) -> Result<(Suffix, usize), Failure>
         requires { Nests self.now.depth (F.pre self.now.expr) (F.post self.now.expr) (G.pre self.now.params) (G.post self.now.params) }
         ensures reads { Reads (reader.bound self.now.names.now (below self.now.names.now self.now.depth) tokens.old) result tokens.new }
-        ensures tall { IfOk result (λ s. s.1 ≤ self.now.depth - 1) }
+        ensures height { IfOk result (λ s. s.1 ≤ self.now.depth - 1) }
     {
         if tokens.eat(Mark::RightBracket) {
             return Ok((Suffix::Array(None), 0));
@@ -36,11 +36,11 @@ where
     }
 
     /// A bound in brackets, or parameters in parentheses.
-    #[tactic(auto, unfolding(crate::specs::Readers::suffix))]
+    #[tactic(auto, unfolding(crate::specs::inner::Readers::suffix))]
     fn suffix(&self, tokens: &mut Cursor<'_>) -> Result<(Suffix, usize), Failure>
         requires { Nests self.now.depth (F.pre self.now.expr) (F.post self.now.expr) (G.pre self.now.params) (G.post self.now.params) }
         ensures reads { Reads (reader.suffix self.now.names.now (below self.now.names.now self.now.depth) tokens.old) result tokens.new }
-        ensures tall { IfOk result (λ s. s.1 ≤ self.now.depth - 1) }
+        ensures height { IfOk result (λ s. s.1 ≤ self.now.depth - 1) }
     {
         if tokens.eat(Mark::LeftBracket) {
             return self.bound(tokens);
@@ -55,7 +55,7 @@ where
     pub fn suffixes(&self, tokens: &mut Cursor<'_>) -> Result<(Items<Suffix>, usize), Failure>
         requires { Nests self.now.depth (F.pre self.now.expr) (F.post self.now.expr) (G.pre self.now.params) (G.post self.now.params) }
         ensures reads { Reads (reader.suffixes self.now.names.now (below self.now.names.now self.now.depth) tokens.old) result tokens.new }
-        ensures tall { IfOk result (λ ss. ss.1 ≤ self.now.depth - 1) }
+        ensures height { IfOk result (λ ss. ss.1 ≤ self.now.depth - 1) }
     {
         let mut found = Items::new(self.alloc);
         let mut height = 0;

@@ -1,10 +1,5 @@
-mod Steps
-mod Fronts
-mod SoundDecls
-mod SoundStmts
-mod SoundItems
-mod TakenDecls
-mod TakenStmts
-mod TakenItems
+mod ChainLemmas
+mod ReadersLemmas
 mod Sources
-mod Depths
+mod soundness
+mod completeness

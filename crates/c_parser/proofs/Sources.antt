@@ -7,39 +7,40 @@ use Rattle.c_tree.specs.declared.statement.Unit.{Unit as Source}
 use Rattle.c_tree.specs.Marks.{Kinds, greatest_depth}
 use Rattle.c_tree.specs.Statements.{DeclReads, ItemReads, ItemsRead, SourceReads, IsSyntaxRefusal}
 use Rattle.c_tree.specs.Theorems.{DeclaratorsDeclareTheirNames}
-use Rattle.c_expr.specs.Parser.{Outcome}
-use Rattle.c_expr.specs.Laws.{ReadersAreSound, ReadersAreComplete}
-use Rattle.c_expr.proofs.Firsts.{SpecReads-begins}
-use Rattle.c_parser.specs.Readers.{item, Found, behind_item, items_from, source_of}
-use Rattle.c_parser.specs.Laws.{ItemsAreToldApart, SourcesHaveOneTree, RefusalsAreCertain}
-use Rattle.c_parser.proofs.Fronts.{begins_some}
-use Rattle.c_parser.proofs.SoundDecls.{join}
-use Rattle.c_parser.proofs.SoundItems.{ItemRead, item_sound}
-use Rattle.c_parser.proofs.TakenItems.{item_takes}
+use Rattle.c_expr.specs.inner.Parser.{Outcome}
+use Rattle.c_expr.specs.Theorems.{ExpressionLaws}
+use Rattle.c_parser.specs.inner.Readers.{item, Found, behind_item, items_from, source_of}
+use Rattle.c_parser.specs.Theorems.{ItemsAreToldApart, SourcesHaveOneTree, RefusalsAreCertain}
+use Rattle.c_parser.proofs.completeness.StatementsBegin.{begins_some}
+use Rattle.c_expr.specs.inner.ParserLemmas.{join}
+use Rattle.c_parser.proofs.soundness.Items.{ItemRead, item_sound}
+use Rattle.c_parser.proofs.completeness.Items.{item_takes}
 
--- a text with some front is not empty
-some_front : (front behind ts : Kinds) → ts ≡ front ++ behind → 0 < length front → 0 < length ts
-some_front front behind ts is some = let l = length-append front behind in let e = ap (λ k. length k) is in omega arith
-
-decl_some : {names : List (List ℕ)} {h : ℕ} {ts : Kinds} {d : Decl} → DeclReads names h ts d → 0 < length ts
-decl_some (DeclReads.decl h ts d s declarators hs hd ss ds hh is di sread dread) = some_front (ss ++ ds) _ ts is (some_front ss ds (ss ++ ds) refl (begins_some _ ss (SpecReads-begins sread)))
-
-pub item_some : {names : List (List ℕ)} {h : ℕ} {new : List (List ℕ)} {ts : Kinds} {i : Item} → ItemReads names h new ts i → 0 < length ts
-item_some (ItemReads.declaration h new ts i d ni ii read) = decl_some read
-item_some (ItemReads.type_definition h new ts i s ds hs hd ss dts hh is ii sread dread) = let e = ap (λ k. length k) is in omega arith
-item_some (ItemReads.definition h new ts i s d b x hs hd hb ss ds bs ni hh is ii sread dread bread) = some_front (ss ++ ds) bs ts is (some_front ss ds (ss ++ ds) refl (begins_some _ ss (SpecReads-begins sread)))
+-- tokens with a prefix that is not empty are not empty
+some_prefix : (prefix behind ts : Kinds) → ts ≡ prefix ++ behind → 0 < length prefix → 0 < length ts
+some_prefix prefix behind ts is some = let l = length-append prefix behind in let e = ap (λ k. length k) is in omega arith
 
 -- one answer of two
 pub one_answer : {A : Type 0} {x y : A × Kinds} → Some x ≡ Some y → (x.0 ≡ y.0) × (x.1 ≡ y.1)
 one_answer {x = x} {y} is = let same : x ≡ y = cc in (ap (λ p. p.0) same, ap (λ p. p.1) same)
 
-module _ (sound : ReadersAreSound) (complete : ReadersAreComplete) (named : DeclaratorsDeclareTheirNames) where
+module _ (laws : ExpressionLaws) (named : DeclaratorsDeclareTheirNames) where
+  -- ---- nothing is empty
+
+  decl_some : {names : List (List ℕ)} {h : ℕ} {ts : Kinds} {d : Decl} → DeclReads names h ts d → 0 < length ts
+  decl_some (DeclReads.decl h ts d s declarators hs hd ss ds hh is di sread dread) = some_prefix (ss ++ ds) _ ts is (some_prefix ss ds (ss ++ ds) refl (begins_some _ ss ((laws.first_tokens _).spec sread)))
+
+  pub item_some : {names : List (List ℕ)} {h : ℕ} {new : List (List ℕ)} {ts : Kinds} {i : Item} → ItemReads names h new ts i → 0 < length ts
+  item_some (ItemReads.declaration h new ts i d ni ii read) = decl_some read
+  item_some (ItemReads.type_definition h new ts i s ds hs hd ss dts hh is ii sread dread) = let e = ap (λ k. length k) is in omega arith
+  item_some (ItemReads.definition h new ts i s d b x hs hd hb ss ds bs ni hh is ii sread dread bread) = some_prefix (ss ++ ds) bs ts is (some_prefix ss ds (ss ++ ds) refl (begins_some _ ss ((laws.first_tokens _).spec sread)))
+
   -- ---- items
 
   pub items_are_told_apart : ItemsAreToldApart
   items_are_told_apart names g h new more ts us rest others i j low high first second is =
-      let a = item_takes complete named names greatest_depth low first rest in
-      let b = item_takes complete named names greatest_depth high second others in
+      let a = item_takes laws named names greatest_depth low first rest in
+      let b = item_takes laws named names greatest_depth high second others in
       let e = one_answer (sym a ∙ ap (λ k. item names greatest_depth k) is ∙ b) in
       (ap (λ p. p.0) e.0, ap (λ p. p.1) e.0, append_cancel_right ts us others (ap (λ k. ts ++ k) (sym e.1) ∙ is))
 
@@ -48,17 +49,17 @@ module _ (sound : ReadersAreSound) (complete : ReadersAreComplete) (named : Decl
   BeginsNoItem names ts = (h : ℕ) (new : List (List ℕ)) (its os : Kinds) (i : Item) → h ≤ greatest_depth → ts ≡ its ++ os → ItemReads names h new its i → ⊥
 
   no_item : (names : List (List ℕ)) (ts : Kinds) → item names greatest_depth ts ≡ None → BeginsNoItem names ts
-  no_item names ts none h new its os i low is read = let taken = item_takes complete named names greatest_depth low read os in let same = ap (λ k. item names greatest_depth k) is in cc
+  no_item names ts none h new its os i low is read = let taken = item_takes laws named names greatest_depth low read os in let same = ap (λ k. item names greatest_depth k) is in cc
 
   no_answer_by : (names : List (List ℕ)) (ts : Kinds) (o : Outcome (Item × List (List ℕ))) → item names greatest_depth ts ≡ o → BeginsNoItem names ts → o ≡ None
   no_answer_by names ts None is none = refl
-  no_answer_by names ts (Some q) is none = let x = item_sound sound named names greatest_depth ts q.0 q.1 is in absurd (none x.2 q.0.1 x.0 q.1 q.0.0 x.3 x.1 x.4)
+  no_answer_by names ts (Some q) is none = let x = item_sound laws named names greatest_depth ts q.0 q.1 is in absurd (none x.2 q.0.1 x.0 q.1 q.0.0 x.3 x.1 x.4)
 
   no_answer : (names : List (List ℕ)) (ts : Kinds) → BeginsNoItem names ts → item names greatest_depth ts ≡ None
   no_answer names ts none = no_answer_by names ts (item names greatest_depth ts) refl none
 
   no_tokens : (names : List (List ℕ)) → item names greatest_depth [] ≡ None
-  no_tokens names = no_answer names [] (λ h new its os i low is read. let few : 0 < 0 = some_front its os [] is (item_some read) in absurd (omega arith))
+  no_tokens names = no_answer names [] (λ h new its os i low is read. let few : 0 < 0 = some_prefix its os [] is (item_some read) in absurd (omega arith))
 
   -- ---- the loop reads what is of the grammar
 
@@ -67,12 +68,12 @@ module _ (sound : ReadersAreSound) (complete : ReadersAreComplete) (named : Decl
   unfolding items_from
   items_taken (ItemsRead.none names ts items after is ii ai) rest ends zero enough found = rw (is, ii, append-nil found) refl
   items_taken (ItemsRead.none names ts items after is ii ai) rest ends (suc n) enough found = let same : item names greatest_depth rest ≡ None = ap (λ k. item k greatest_depth rest) (sym ai) ∙ ends in rw (is, ii, append-nil found, same) refl
-  items_taken (ItemsRead.more names ts items after i others h new its os low is ii read behind) rest ends zero enough found = let some = some_front its os ts is (item_some read) in absurd (omega arith)
+  items_taken (ItemsRead.more names ts items after i others h new its os low is ii read behind) rest ends zero enough found = let some = some_prefix its os ts is (item_some read) in absurd (omega arith)
   items_taken (ItemsRead.more names ts items after i others h new its os low is ii read behind) rest ends (suc n) enough found =
       let some = item_some read in
       let long = ap (λ k. length k) is in
       let both = length-append its os in
-      rw (is, ii, append_assoc its os rest, item_takes complete named names greatest_depth low read (os ++ rest)) (items_taken behind rest ends n (omega arith) (found ++ i ∷ []) ∙ rw (append_assoc found (i ∷ []) others) refl)
+      rw (is, ii, append_assoc its os rest, item_takes laws named names greatest_depth low read (os ++ rest)) (items_taken behind rest ends n (omega arith) (found ++ i ∷ []) ∙ rw (append_assoc found (i ∷ []) others) refl)
 
   source_taken : {ts : Kinds} {items : List Item} {after : List (List ℕ)} → ItemsRead [] ts items after → (rest : Kinds) → item after greatest_depth rest ≡ None → source_of (ts ++ rest) ≡ (items, rest)
   unfolding source_of
@@ -92,31 +93,31 @@ module _ (sound : ReadersAreSound) (complete : ReadersAreComplete) (named : Decl
   record Looped (names : List (List ℕ)) (found : List Item) (ts : Kinds) (f : Found) : Type 0 where
     others : List Item
     after : List (List ℕ)
-    front : Kinds
+    prefix : Kinds
     all : f.0 ≡ found ++ others
-    split : ts ≡ front ++ f.1
-    read : ItemsRead names front others after
+    split : ts ≡ prefix ++ f.1
+    read : ItemsRead names prefix others after
     ended : item after greatest_depth f.1 ≡ None
 
   looped_more : {names : List (List ℕ)} {found : List Item} {ts : Kinds} (i : Item) (new : List (List ℕ)) (ks : Kinds) (f : Found) → ItemRead names greatest_depth ts (i, new) ks → Looped (names ++ new) (found ++ i ∷ []) ks f → Looped names found ts f
   looped_more {names} {found} {ts} i new ks f x l = record {
     others = i ∷ l.others;
     after = l.after;
-    front = x.0 ++ l.front;
+    prefix = x.0 ++ l.prefix;
     all = l.all ∙ append_assoc found (i ∷ []) l.others;
-    split = join x.0 l.front f.1 x.1 l.split;
-    read = ItemsRead.more _ _ _ _ i l.others x.2 new x.0 l.front x.3 refl refl x.4 l.read;
+    split = join x.0 l.prefix f.1 x.1 l.split;
+    read = ItemsRead.more _ _ _ _ i l.others x.2 new x.0 l.prefix x.3 refl refl x.4 l.read;
     ended = l.ended;
   }
 
   looped_none : {names : List (List ℕ)} (found : List Item) (ts : Kinds) → item names greatest_depth ts ≡ None → Looped names found ts (found, ts)
-  looped_none {names} found ts none = record { others = []; after = names; front = []; all = sym (append-nil found); split = refl; read = ItemsRead.none _ _ _ _ refl refl refl; ended = none }
+  looped_none {names} found ts none = record { others = []; after = names; prefix = []; all = sym (append-nil found); split = refl; read = ItemsRead.none _ _ _ _ refl refl refl; ended = none }
 
   looped_by : (n : ℕ) → ((found : List Item) (names : List (List ℕ)) (ts : Kinds) → length ts ≤ n → Looped names found ts (items_from n found names ts)) → (found : List Item) (names : List (List ℕ)) (ts : Kinds) → length ts ≤ suc n
       → (o : Outcome (Item × List (List ℕ))) → item names greatest_depth ts ≡ o → Looped names found ts (behind_item found names ts (items_from n) o)
   looped_by n next found names ts few None is = looped_none found ts is
   looped_by n next found names ts few (Some q) is =
-      let x = item_sound sound named names greatest_depth ts q.0 q.1 is in
+      let x = item_sound laws named names greatest_depth ts q.0 q.1 is in
       let some = item_some x.4 in
       let long = ap (λ k. length k) x.1 in
       let both = length-append x.0 q.1 in
@@ -135,7 +136,7 @@ module _ (sound : ReadersAreSound) (complete : ReadersAreComplete) (named : Decl
   -- where no token is left, the items are a source of the tokens
   pub source_found : (ts : Kinds) → (source_of ts).1 ≡ [] → SourceReads ts (record { items = (source_of ts).0 })
   source_found ts none = let l = source_looped ts in
-      let same : ts ≡ l.front = l.split ∙ ap (λ k. l.front ++ k) none ∙ append-nil l.front in
+      let same : ts ≡ l.prefix = l.split ∙ ap (λ k. l.prefix ++ k) none ∙ append-nil l.prefix in
       (l.after, subst (λ xs. ItemsRead [] ts xs l.after) (sym l.all) (subst (λ k. ItemsRead [] k l.others l.after) (sym same) l.read))
 
   -- where tokens are left, the source is refused behind the items
@@ -143,7 +144,7 @@ module _ (sound : ReadersAreSound) (complete : ReadersAreComplete) (named : Decl
   source_refused ts some = let l = source_looped ts in record {
     items = l.others;
     names = l.after;
-    before = l.front;
+    before = l.prefix;
     rest = (source_of ts).1;
     split = l.split;
     read = l.read;

@@ -1,3 +1,2 @@
-pub mod Readers
-pub mod Laws
-pub mod Nests
+pub mod Theorems
+pub mod inner

@@ -1,9 +1,9 @@
 //! Initialisers and declarations.
 
 ghost use Rattle.std.specs.Prelude.{◌≡◌, ◌≤◌, ◌<◌, ◌^◌, IfOk};
-ghost use Rattle.c_expr.specs.Readers.{readers};
-ghost use Rattle.c_expr.specs.Reads.{Reads};
-ghost use Rattle.c_parser.specs.Readers as reader;
+ghost use Rattle.c_expr.specs.inner.Readers.{readers};
+ghost use Rattle.c_expr.specs.inner.Reads.{Reads};
+ghost use Rattle.c_parser.specs.inner.Readers as reader;
 
 use c_expr::{Cursor, Failure, Names, begins_spec, declarator, expr, spec};
 use c_tokens::Mark;
@@ -15,7 +15,7 @@ use std::alloc::Global;
 pub(crate) const ASSIGN_LEVEL: usize = 0;
 
 /// An expression of a statement.
-#[tactic(auto, unfolding(crate::specs::Readers::full_expr))]
+#[tactic(auto, unfolding(crate::specs::inner::Readers::full_expr))]
 fn full_expr(
     alloc: Global,
     names: &Names,
@@ -24,7 +24,7 @@ fn full_expr(
 ) -> Result<(FullExpr, usize), Failure>
     requires { depth < 2 ^ 31 }
     ensures reads { Reads (reader.full_expr names.now (readers names.now depth) tokens.old) result tokens.new }
-    ensures tall { IfOk result (λ e. e.1 ≤ depth) }
+    ensures height { IfOk result (λ e. e.1 ≤ depth) }
 {
     let (expr, height) = expr(alloc, names, tokens, depth, ASSIGN_LEVEL)?;
     let expr = Boxed::new(alloc, expr)?;
@@ -32,7 +32,7 @@ fn full_expr(
 }
 
 /// An expression, if one stands before the mark, and the mark.
-#[tactic(auto, unfolding(crate::specs::Readers::option_to))]
+#[tactic(auto, unfolding(crate::specs::inner::Readers::option_to))]
 pub(crate) fn option_to(
     alloc: Global,
     names: &Names,
@@ -42,7 +42,7 @@ pub(crate) fn option_to(
 ) -> Result<(Option<FullExpr>, usize), Failure>
     requires { depth < 2 ^ 31 }
     ensures reads { Reads (reader.option_to names.now (readers names.now depth) mark tokens.old) result tokens.new }
-    ensures tall { IfOk result (λ o. o.1 ≤ depth) }
+    ensures height { IfOk result (λ o. o.1 ≤ depth) }
 {
     if tokens.eat(mark) {
         return Ok((None, 0));
@@ -53,7 +53,7 @@ pub(crate) fn option_to(
 }
 
 /// The condition and the step of a `for`, and the closing parenthesis.
-#[tactic(auto, unfolding(crate::specs::Readers::for_tests))]
+#[tactic(auto, unfolding(crate::specs::inner::Readers::for_tests))]
 pub(crate) fn for_tests(
     alloc: Global,
     names: &Names,
@@ -62,7 +62,7 @@ pub(crate) fn for_tests(
 ) -> Result<((Option<FullExpr>, Option<FullExpr>), usize), Failure>
     requires { depth < 2 ^ 31 }
     ensures reads { Reads (reader.for_tests names.now (readers names.now depth) tokens.old) result tokens.new }
-    ensures tall { IfOk result (λ c. c.1 ≤ depth) }
+    ensures height { IfOk result (λ c. c.1 ≤ depth) }
 {
     let (test, height) = option_to(alloc, names, tokens, depth, Mark::Semicolon)?;
     let (step, step_height) = option_to(alloc, names, tokens, depth, Mark::RightParenthesis)?;
@@ -70,7 +70,7 @@ pub(crate) fn for_tests(
 }
 
 /// An expression in parentheses.
-#[tactic(auto, unfolding(crate::specs::Readers::condition))]
+#[tactic(auto, unfolding(crate::specs::inner::Readers::condition))]
 pub(crate) fn condition(
     alloc: Global,
     names: &Names,
@@ -79,7 +79,7 @@ pub(crate) fn condition(
 ) -> Result<(FullExpr, usize), Failure>
     requires { depth < 2 ^ 31 }
     ensures reads { Reads (reader.condition names.now (readers names.now depth) tokens.old) result tokens.new }
-    ensures tall { IfOk result (λ c. c.1 ≤ depth) }
+    ensures height { IfOk result (λ c. c.1 ≤ depth) }
 {
     tokens.expect(Mark::LeftParenthesis)?;
     let read = full_expr(alloc, names, tokens, depth)?;
@@ -96,7 +96,7 @@ pub(crate) fn init(
 ) -> Result<(Init, usize), Failure>
     requires { depth < 2 ^ 31 }
     ensures reads { Reads (reader.init names.now depth tokens.old) result tokens.new }
-    ensures tall { IfOk result (λ i. i.1 ≤ depth) }
+    ensures height { IfOk result (λ i. i.1 ≤ depth) }
 {
     if depth == 0 {
         return Err(Failure::Mismatch);
@@ -123,7 +123,7 @@ pub(crate) fn init(
 }
 
 /// A declarator that was read, with its initialiser, if it has one.
-#[tactic(auto, unfolding(crate::specs::Readers::with_init))]
+#[tactic(auto, unfolding(crate::specs::inner::Readers::with_init))]
 fn with_init(
     alloc: Global,
     names: &Names,
@@ -134,7 +134,7 @@ fn with_init(
     requires few { depth < 2 ^ 31 }
     requires low { declarator.1 ≤ depth }
     ensures reads { Reads (reader.with_init names.now (readers names.now depth) (reader.init names.now depth) declarator tokens.old) result tokens.new }
-    ensures tall { IfOk result (λ d. d.1 ≤ depth) }
+    ensures height { IfOk result (λ d. d.1 ≤ depth) }
 {
     let (declarator, height) = declarator;
     if !tokens.eat(Mark::Assign) {
@@ -163,7 +163,7 @@ fn declared(
     requires few { depth < 2 ^ 31 }
     requires low { first.1 ≤ depth }
     ensures reads { Reads (reader.declared names.now (readers names.now depth) (reader.init names.now depth) first tokens.old) result tokens.new }
-    ensures tall { IfOk result (λ ds. ds.1 ≤ depth) }
+    ensures height { IfOk result (λ ds. ds.1 ≤ depth) }
 {
     let mut found = Items::new(alloc);
     let mut height = 0;
@@ -181,7 +181,7 @@ fn declared(
 }
 
 /// A declaration from its first declarator on, which was read, as its spec was.
-#[tactic(auto, unfolding(crate::specs::Readers::decl_of))]
+#[tactic(auto, unfolding(crate::specs::inner::Readers::decl_of))]
 pub(crate) fn decl_of(
     alloc: Global,
     names: &Names,
@@ -194,7 +194,7 @@ pub(crate) fn decl_of(
     requires low { spec.1 ≤ depth }
     requires first_low { first.1 ≤ depth }
     ensures reads { Reads (reader.decl_of names.now (readers names.now depth) (reader.init names.now depth) spec first tokens.old) result tokens.new }
-    ensures tall { IfOk result (λ d. d.1 ≤ depth) }
+    ensures height { IfOk result (λ d. d.1 ≤ depth) }
 {
     let (declarators, height) = declared(alloc, names, tokens, depth, first)?;
     tokens.expect(Mark::Semicolon)?;
@@ -203,7 +203,7 @@ pub(crate) fn decl_of(
 }
 
 /// A declaration.
-#[tactic(auto, unfolding(crate::specs::Readers::decl))]
+#[tactic(auto, unfolding(crate::specs::inner::Readers::decl))]
 pub(crate) fn decl(
     alloc: Global,
     names: &Names,
@@ -212,7 +212,7 @@ pub(crate) fn decl(
 ) -> Result<(Decl, usize), Failure>
     requires { depth < 2 ^ 31 }
     ensures reads { Reads (reader.decl names.now (readers names.now depth) (reader.init names.now depth) tokens.old) result tokens.new }
-    ensures tall { IfOk result (λ d. d.1 ≤ depth) }
+    ensures height { IfOk result (λ d. d.1 ≤ depth) }
 {
     let (spec, height) = spec(alloc, names, tokens, depth)?;
     if tokens.eat(Mark::Semicolon) {
@@ -224,7 +224,7 @@ pub(crate) fn decl(
 }
 
 /// What a `for` begins with, with its `;`.
-#[tactic(auto, unfolding(crate::specs::Readers::for_init))]
+#[tactic(auto, unfolding(crate::specs::inner::Readers::for_init))]
 pub(crate) fn for_init(
     alloc: Global,
     names: &Names,
@@ -233,7 +233,7 @@ pub(crate) fn for_init(
 ) -> Result<(ForInit, usize), Failure>
     requires { depth < 2 ^ 31 }
     ensures reads { Reads (reader.for_init names.now (readers names.now depth) (reader.init names.now depth) tokens.old) result tokens.new }
-    ensures tall { IfOk result (λ f. f.1 ≤ depth) }
+    ensures height { IfOk result (λ f. f.1 ≤ depth) }
 {
     if begins_spec(names, tokens) {
         let (decl, height) = decl(alloc, names, tokens, depth)?;

@@ -1,3 +1,5 @@
+//! Why tokens are no source.
+
 use std::alloc::AllocError;
 use thiserror::Error;
 

@@ -1,5 +1,7 @@
+//! What the first token says of a statement.
+
 ghost use Rattle.std.specs.Prelude.{◌≡◌};
-ghost use Rattle.c_parser.specs.Readers as reader;
+ghost use Rattle.c_parser.specs.inner.Readers as reader;
 
 use c_tokens::{Keyword, Kind, Mark};
 

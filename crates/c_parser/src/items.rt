@@ -2,12 +2,12 @@
 
 ghost use Rattle.std.specs.Prelude.{◌≡◌, ◌≤◌, ◌<◌, ◌^◌, map, IfOk};
 ghost use Rattle.c_tree.specs.DeclaredName.{declared_name};
-ghost use Rattle.c_expr.specs.Reads.{Reads};
-ghost use Rattle.c_parser.specs.Readers as reader;
-ghost use Rattle.c_parser.specs.Readers.{of_depth};
+ghost use Rattle.c_expr.specs.inner.Reads.{Reads};
+ghost use Rattle.c_parser.specs.inner.Readers as reader;
+ghost use Rattle.c_parser.specs.inner.Readers.{of_depth};
 
 use crate::declarations::decl_of;
-use crate::knot::block;
+use crate::depths::block;
 use crate::words::eat_word;
 use c_expr::{Cursor, Failure, Names, declarator, spec};
 use c_tokens::{Keyword, Mark};
@@ -49,7 +49,7 @@ fn types(
 }
 
 /// A type definition, behind its `typedef`.
-#[tactic(auto, unfolding(crate::specs::Readers::type_definition))]
+#[tactic(auto, unfolding(crate::specs::inner::Readers::type_definition))]
 fn type_definition(
     alloc: Global,
     names: &Names,
@@ -67,7 +67,7 @@ fn type_definition(
 }
 
 /// An item from its first declarator on, which was read, as its spec was.
-#[tactic(auto, unfolding(crate::specs::Readers::item_of))]
+#[tactic(auto, unfolding(crate::specs::inner::Readers::item_of))]
 fn item_of(
     alloc: Global,
     names: &Names,
@@ -91,7 +91,7 @@ fn item_of(
 }
 
 /// An item that is no type definition.
-#[tactic(auto, unfolding(crate::specs::Readers::untyped))]
+#[tactic(auto, unfolding(crate::specs::inner::Readers::untyped))]
 fn untyped(
     alloc: Global,
     names: &Names,
@@ -112,7 +112,7 @@ fn untyped(
 }
 
 /// An item, and the type names that it declares.
-#[tactic(auto, unfolding(crate::specs::Readers::item, crate::specs::Readers::item_over))]
+#[tactic(auto, unfolding(crate::specs::inner::Readers::item, crate::specs::inner::Readers::item_over))]
 pub(crate) fn item(
     alloc: Global,
     names: &Names,

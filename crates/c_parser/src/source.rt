@@ -4,13 +4,13 @@ ghost use Rattle.std.specs.Prelude.{◌≡◌, ◌≤◌, ◌<◌, ◌^◌, ◌+
 ghost use Rattle.c_tree.specs.declared.statement.Unit.{Unit as Source};
 ghost use Rattle.c_tree.specs.Marks.{kinds_of};
 ghost use Rattle.c_tree.specs.Statements.{SourceReads, IsSyntaxRefusal};
-ghost use Rattle.c_parser.specs.declared.error.ParseRefusal.TheVariants.{Syntax};
-ghost use Rattle.c_parser.specs.Laws.{IsAnswer};
-ghost use Rattle.c_parser.specs.Readers as reader;
+ghost use Rattle.c_tokens.specs.Answer.{IsAnswer};
+ghost use Rattle.c_parser.specs.declared.error.ParseRefusal.TheVariants.{Syntax, Memory};
+ghost use Rattle.c_parser.specs.inner.Readers as reader;
 
 use crate::error::ParseRefusal;
 use crate::items::item;
-use c_expr::{Cursor, Failure, Names};
+use c_expr::{Cursor, Failure, Names, expression_laws};
 use c_tokens::Tokens;
 use c_tree::{Item, Unit, declarators_declare_their_names};
 use c_types::{Name, copy_name};
@@ -61,10 +61,11 @@ pub fn parse(alloc: Global, tokens: &Tokens) -> Result<Unit, ParseRefusal>
     requires { length tokens.now < 2 ^ 31 }
     ensures found { IfOk result (SourceReads (kinds_of tokens.now)) }
     ensures count { IfOk result (λ source. length source.items ≤ length tokens.now) }
-    ensures only { (source : Source) → SourceReads (kinds_of tokens.now) source → IsAnswer result (Ok source) }
+    ensures only { (source : Source) → SourceReads (kinds_of tokens.now) source → IsAnswer Memory result (Ok source) }
     ensures refused { (count : ℕ) → result ≡ Err (Syntax count) → IsSyntaxRefusal (kinds_of tokens.now) count }
-    ensures refuses { (count : ℕ) → IsSyntaxRefusal (kinds_of tokens.now) count → IsAnswer result (Err (Syntax count)) }
+    ensures refuses { (count : ℕ) → IsSyntaxRefusal (kinds_of tokens.now) count → IsAnswer Memory result (Err (Syntax count)) }
 {
+    expression_laws();
     declarators_declare_their_names();
     let mut cursor = Cursor::new(tokens.as_slice());
     let (items, left) = items_of(alloc, &mut cursor)?;

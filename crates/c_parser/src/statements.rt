@@ -2,11 +2,11 @@
 //! proved by itself.
 
 ghost use Rattle.std.specs.Prelude.{◌≡◌, ◌≤◌, ◌<◌, ◌+◌, ◌^◌, IfOk};
-ghost use Rattle.c_expr.specs.Readers.{readers};
-ghost use Rattle.c_expr.specs.Reads.{Reads};
-ghost use Rattle.c_parser.specs.Nests.{Nests};
-ghost use Rattle.c_parser.specs.Readers as reader;
-ghost use Rattle.c_parser.specs.Readers.{of_depth};
+ghost use Rattle.c_expr.specs.inner.Readers.{readers};
+ghost use Rattle.c_expr.specs.inner.Reads.{Reads};
+ghost use Rattle.c_parser.specs.inner.Nests.{Nests};
+ghost use Rattle.c_parser.specs.inner.Readers as reader;
+ghost use Rattle.c_parser.specs.inner.Readers.{of_depth};
 
 use crate::declarations::{condition, decl, for_init, for_tests, option_to};
 use crate::form::{Form, form_of};
@@ -29,20 +29,20 @@ pub(crate) struct Rules<'n, F> {
 }
 
 /// What stands behind a `break`.
-#[tactic(auto, unfolding(crate::specs::Readers::ended))]
+#[tactic(auto, unfolding(crate::specs::inner::Readers::ended))]
 fn break_behind(tokens: &mut Cursor<'_>) -> Result<(Stmt, usize), Failure>
     ensures reads { Reads (reader.ended Stmt.Break tokens.old) result tokens.new }
-    ensures tall { IfOk result (λ s. s.1 ≡ 1) }
+    ensures height { IfOk result (λ s. s.1 ≡ 1) }
 {
     tokens.expect(Mark::Semicolon)?;
     Ok((Stmt::Break, 1))
 }
 
 /// What stands behind a `continue`.
-#[tactic(auto, unfolding(crate::specs::Readers::ended))]
+#[tactic(auto, unfolding(crate::specs::inner::Readers::ended))]
 fn continue_behind(tokens: &mut Cursor<'_>) -> Result<(Stmt, usize), Failure>
     ensures reads { Reads (reader.ended Stmt.Continue tokens.old) result tokens.new }
-    ensures tall { IfOk result (λ s. s.1 ≡ 1) }
+    ensures height { IfOk result (λ s. s.1 ≡ 1) }
 {
     tokens.expect(Mark::Semicolon)?;
     Ok((Stmt::Continue, 1))
@@ -56,7 +56,7 @@ where
     fn inner(&self, tokens: &mut Cursor<'_>) -> Result<(Stmt, usize), Failure>
         requires { Nests self.now.depth (F.pre self.now.stmt) (F.post self.now.stmt) }
         ensures reads { Reads (reader.stmt self.now.names.now self.now.depth tokens.old) result tokens.new }
-        ensures tall { IfOk result (λ s. s.1 ≤ self.now.depth) }
+        ensures height { IfOk result (λ s. s.1 ≤ self.now.depth) }
     {
         (self.stmt)(self.alloc, self.names, tokens, self.depth)
     }
@@ -65,7 +65,7 @@ where
     fn boxed(&self, tokens: &mut Cursor<'_>) -> Result<(Boxed<Stmt>, usize), Failure>
         requires { Nests self.now.depth (F.pre self.now.stmt) (F.post self.now.stmt) }
         ensures reads { Reads (reader.stmt self.now.names.now self.now.depth tokens.old) result tokens.new }
-        ensures tall { IfOk result (λ s. s.1 ≤ self.now.depth) }
+        ensures height { IfOk result (λ s. s.1 ≤ self.now.depth) }
     {
         let (stmt, height) = self.inner(tokens)?;
         Ok((Boxed::new(self.alloc, stmt)?, height))
@@ -75,7 +75,7 @@ where
     fn condition(&self, tokens: &mut Cursor<'_>) -> Result<(FullExpr, usize), Failure>
         requires { self.now.depth < 2 ^ 31 }
         ensures reads { Reads (reader.condition self.now.names.now (readers self.now.names.now self.now.depth) tokens.old) result tokens.new }
-        ensures tall { IfOk result (λ c. c.1 ≤ self.now.depth) }
+        ensures height { IfOk result (λ c. c.1 ≤ self.now.depth) }
     {
         condition(self.alloc, self.names, tokens, self.depth)
     }
@@ -88,17 +88,17 @@ where
     ) -> Result<(Option<FullExpr>, usize), Failure>
         requires { self.now.depth < 2 ^ 31 }
         ensures reads { Reads (reader.option_to self.now.names.now (readers self.now.names.now self.now.depth) mark tokens.old) result tokens.new }
-        ensures tall { IfOk result (λ o. o.1 ≤ self.now.depth) }
+        ensures height { IfOk result (λ o. o.1 ≤ self.now.depth) }
     {
         option_to(self.alloc, self.names, tokens, self.depth, mark)
     }
 
     /// A declaration or a statement of a block.
-    #[tactic(auto, unfolding(crate::specs::Readers::block_item))]
+    #[tactic(auto, unfolding(crate::specs::inner::Readers::block_item))]
     fn block_item(&self, tokens: &mut Cursor<'_>) -> Result<(BlockItem, usize), Failure>
         requires { Nests self.now.depth (F.pre self.now.stmt) (F.post self.now.stmt) }
         ensures reads { Reads (of_depth reader.block_item self.now.names.now self.now.depth tokens.old) result tokens.new }
-        ensures tall { IfOk result (λ s. s.1 ≤ self.now.depth) }
+        ensures height { IfOk result (λ s. s.1 ≤ self.now.depth) }
     {
         if begins_spec(self.names, tokens) {
             let (decl, height) = decl(self.alloc, self.names, tokens, self.depth)?;
@@ -112,7 +112,7 @@ where
     fn block_items(&self, tokens: &mut Cursor<'_>) -> Result<(Items<BlockItem>, usize), Failure>
         requires { Nests self.now.depth (F.pre self.now.stmt) (F.post self.now.stmt) }
         ensures reads { Reads (of_depth reader.block_items self.now.names.now self.now.depth tokens.old) result tokens.new }
-        ensures tall { IfOk result (λ s. s.1 ≤ self.now.depth) }
+        ensures height { IfOk result (λ s. s.1 ≤ self.now.depth) }
     {
         let mut found = Items::new(self.alloc);
         let mut height = 0;
@@ -128,11 +128,11 @@ where
     }
 
     /// A block.
-    #[tactic(auto, unfolding(crate::specs::Readers::block))]
+    #[tactic(auto, unfolding(crate::specs::inner::Readers::block))]
     pub fn block(&self, tokens: &mut Cursor<'_>) -> Result<(Block, usize), Failure>
         requires { Nests self.now.depth (F.pre self.now.stmt) (F.post self.now.stmt) }
         ensures reads { Reads (of_depth reader.block self.now.names.now self.now.depth tokens.old) result tokens.new }
-        ensures tall { IfOk result (λ s. s.1 ≤ self.now.depth) }
+        ensures height { IfOk result (λ s. s.1 ≤ self.now.depth) }
     {
         tokens.expect(Mark::LeftBrace)?;
         let (items, height) = self.block_items(tokens)?;
@@ -140,11 +140,11 @@ where
     }
 
     /// What stands behind an `if`. It takes an `else` that comes.
-    #[tactic(auto, unfolding(crate::specs::Readers::if_behind))]
+    #[tactic(auto, unfolding(crate::specs::inner::Readers::if_behind))]
     fn if_behind(&self, tokens: &mut Cursor<'_>) -> Result<(Stmt, usize), Failure>
         requires { Nests self.now.depth (F.pre self.now.stmt) (F.post self.now.stmt) }
         ensures reads { Reads (of_depth reader.if_behind self.now.names.now self.now.depth tokens.old) result tokens.new }
-        ensures tall { IfOk result (λ s. s.1 ≤ 1 + self.now.depth) }
+        ensures height { IfOk result (λ s. s.1 ≤ 1 + self.now.depth) }
     {
         let (test, test_height) = self.condition(tokens)?;
         let (then_branch, then_height) = self.boxed(tokens)?;
@@ -167,11 +167,11 @@ where
     }
 
     /// What stands behind a `while`.
-    #[tactic(auto, unfolding(crate::specs::Readers::while_behind))]
+    #[tactic(auto, unfolding(crate::specs::inner::Readers::while_behind))]
     fn while_behind(&self, tokens: &mut Cursor<'_>) -> Result<(Stmt, usize), Failure>
         requires { Nests self.now.depth (F.pre self.now.stmt) (F.post self.now.stmt) }
         ensures reads { Reads (of_depth reader.while_behind self.now.names.now self.now.depth tokens.old) result tokens.new }
-        ensures tall { IfOk result (λ s. s.1 ≤ 1 + self.now.depth) }
+        ensures height { IfOk result (λ s. s.1 ≤ 1 + self.now.depth) }
     {
         let (test, test_height) = self.condition(tokens)?;
         let (body, height) = self.boxed(tokens)?;
@@ -179,11 +179,11 @@ where
     }
 
     /// What stands behind a `do`.
-    #[tactic(auto, unfolding(crate::specs::Readers::do_behind))]
+    #[tactic(auto, unfolding(crate::specs::inner::Readers::do_behind))]
     fn do_behind(&self, tokens: &mut Cursor<'_>) -> Result<(Stmt, usize), Failure>
         requires { Nests self.now.depth (F.pre self.now.stmt) (F.post self.now.stmt) }
         ensures reads { Reads (of_depth reader.do_behind self.now.names.now self.now.depth tokens.old) result tokens.new }
-        ensures tall { IfOk result (λ s. s.1 ≤ 1 + self.now.depth) }
+        ensures height { IfOk result (λ s. s.1 ≤ 1 + self.now.depth) }
     {
         let (body, height) = self.boxed(tokens)?;
         expect_word(tokens, Keyword::While)?;
@@ -193,11 +193,11 @@ where
     }
 
     /// What stands behind a `for`.
-    #[tactic(auto, unfolding(crate::specs::Readers::for_behind))]
+    #[tactic(auto, unfolding(crate::specs::inner::Readers::for_behind))]
     fn for_behind(&self, tokens: &mut Cursor<'_>) -> Result<(Stmt, usize), Failure>
         requires { Nests self.now.depth (F.pre self.now.stmt) (F.post self.now.stmt) }
         ensures reads { Reads (of_depth reader.for_behind self.now.names.now self.now.depth tokens.old) result tokens.new }
-        ensures tall { IfOk result (λ s. s.1 ≤ 1 + self.now.depth) }
+        ensures height { IfOk result (λ s. s.1 ≤ 1 + self.now.depth) }
     {
         tokens.expect(Mark::LeftParenthesis)?;
         let (init, init_height) = for_init(self.alloc, self.names, tokens, self.depth)?;
@@ -219,33 +219,33 @@ where
     }
 
     /// What stands behind a `return`.
-    #[tactic(auto, unfolding(crate::specs::Readers::return_behind))]
+    #[tactic(auto, unfolding(crate::specs::inner::Readers::return_behind))]
     fn return_behind(&self, tokens: &mut Cursor<'_>) -> Result<(Stmt, usize), Failure>
         requires { Nests self.now.depth (F.pre self.now.stmt) (F.post self.now.stmt) }
         ensures reads { Reads (of_depth reader.return_behind self.now.names.now self.now.depth tokens.old) result tokens.new }
-        ensures tall { IfOk result (λ s. s.1 ≤ 1 + self.now.depth) }
+        ensures height { IfOk result (λ s. s.1 ≤ 1 + self.now.depth) }
     {
         let (value, height) = self.option_to(tokens, Mark::Semicolon)?;
         Ok((Stmt::Return(value), 1 + height))
     }
 
     /// An expression and a semicolon, or a semicolon alone.
-    #[tactic(auto, unfolding(crate::specs::Readers::computes))]
+    #[tactic(auto, unfolding(crate::specs::inner::Readers::computes))]
     fn computes(&self, tokens: &mut Cursor<'_>) -> Result<(Stmt, usize), Failure>
         requires { Nests self.now.depth (F.pre self.now.stmt) (F.post self.now.stmt) }
         ensures reads { Reads (of_depth reader.computes self.now.names.now self.now.depth tokens.old) result tokens.new }
-        ensures tall { IfOk result (λ s. s.1 ≤ 1 + self.now.depth) }
+        ensures height { IfOk result (λ s. s.1 ≤ 1 + self.now.depth) }
     {
         let (value, height) = self.option_to(tokens, Mark::Semicolon)?;
         Ok((Stmt::Expr(value), 1 + height))
     }
 
     /// A statement, one deeper.
-    #[tactic(auto, unfolding(crate::specs::Readers::stmt_over))]
+    #[tactic(auto, unfolding(crate::specs::inner::Readers::stmt_over))]
     pub fn statement(&self, tokens: &mut Cursor<'_>) -> Result<(Stmt, usize), Failure>
         requires { Nests self.now.depth (F.pre self.now.stmt) (F.post self.now.stmt) }
         ensures reads { Reads (of_depth reader.stmt_over self.now.names.now self.now.depth tokens.old) result tokens.new }
-        ensures tall { IfOk result (λ s. s.1 ≤ 1 + self.now.depth) }
+        ensures height { IfOk result (λ s. s.1 ≤ 1 + self.now.depth) }
     {
         let Some(kind) = tokens.peek() else {
             return Err(Failure::Mismatch);

@@ -1,14 +1,14 @@
 //! Words ahead.
 
 ghost use Rattle.std.specs.Prelude.{◌≡◌};
-ghost use Rattle.c_expr.specs.Reads.{Reads};
-ghost use Rattle.c_parser.specs.Readers as reader;
+ghost use Rattle.c_expr.specs.inner.Reads.{Reads};
+ghost use Rattle.c_parser.specs.inner.Readers as reader;
 
 use c_expr::{Cursor, Failure};
 use c_tokens::{Keyword, Kind};
 
 /// Whether this word comes next.
-#[tactic(auto, unfolding(c_expr::specs::Parser::same_word))]
+#[tactic(auto, unfolding(c_expr::specs::inner::Parser::same_word))]
 fn sees_word(tokens: &Cursor<'_>, word: Keyword) -> bool
     ensures { result ≡ reader.sees_word word tokens.now }
 {
@@ -19,7 +19,7 @@ fn sees_word(tokens: &Cursor<'_>, word: Keyword) -> bool
 }
 
 /// Takes the word, if it comes next.
-#[tactic(auto, unfolding(crate::specs::Readers::after_word))]
+#[tactic(auto, unfolding(crate::specs::inner::Readers::after_word))]
 pub(crate) fn eat_word(tokens: &mut Cursor<'_>, word: Keyword) -> bool
     ensures found { result ≡ reader.sees_word word tokens.old }
     ensures after { tokens.new ≡ reader.after_word word tokens.old }
@@ -32,7 +32,7 @@ pub(crate) fn eat_word(tokens: &mut Cursor<'_>, word: Keyword) -> bool
 }
 
 /// Takes the word, which must come next.
-#[tactic(auto, unfolding(crate::specs::Readers::expect_word, crate::specs::Readers::after_word))]
+#[tactic(auto, unfolding(crate::specs::inner::Readers::expect_word, crate::specs::inner::Readers::after_word))]
 pub(crate) fn expect_word(tokens: &mut Cursor<'_>, word: Keyword) -> Result<(), Failure>
     ensures { Reads (reader.expect_word word tokens.old) result tokens.new }
 {

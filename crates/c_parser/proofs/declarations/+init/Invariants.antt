@@ -1,7 +1,7 @@
 use Rattle.std.proofs.Common.{◌≡◌, ◌≤◌, ◌-◌}
-use Rattle.c_expr.specs.Readers.{readers}
-use Rattle.c_parser.specs.Readers.{init, inits_from}
-use Rattle.c_parser.proofs.Depths.{braced}
+use Rattle.c_expr.specs.inner.Readers.{readers}
+use Rattle.c_parser.specs.inner.Readers.{init, inits_from}
+use Rattle.c_parser.proofs.ReadersLemmas.{braced}
 use Rattle.c_parser.proofs.declarations.+init.Given as goal
 
 abbrev pub decreases-init : goal.decreases-init

@@ -1,6 +1,6 @@
 use Rattle.std.proofs.Common.{◌≡◌, ◌≤◌, ◌-◌}
-use Rattle.c_expr.specs.Readers.{readers}
-use Rattle.c_parser.specs.Readers.{init, declared, declared_from}
+use Rattle.c_expr.specs.inner.Readers.{readers}
+use Rattle.c_parser.specs.inner.Readers.{init, declared, declared_from}
 use Rattle.c_parser.proofs.declarations.declared.Given as goal
 
 abbrev pub invariant-loop-turn : goal.invariant-loop-turn

@@ -1,5 +1,5 @@
 use Rattle.std.proofs.Common.{◌≡◌, ◌≤◌, ◌-◌, length}
-use Rattle.c_parser.specs.Readers.{source_of, items_from}
+use Rattle.c_parser.specs.inner.Readers.{source_of, items_from}
 use Rattle.c_parser.proofs.source.items_of.Given as goal
 
 abbrev pub invariant-loop-turn : goal.invariant-loop-turn

@@ -1,7 +1,7 @@
 use Rattle.std.proofs.Common.{◌≡◌, false, true, ◌∙◌}
-use Rattle.c_expr.specs.Parser.{sees}
+use Rattle.c_expr.specs.inner.Parser.{sees}
 use Rattle.c_expr.proofs.Runs.{counted_mark, counted_stop, run_stop, after_seen}
-use Rattle.c_expr.proofs.Steps.{after_other}
+use Rattle.c_expr.specs.inner.ParserLemmas.{after_other}
 use Rattle.c_expr.proofs.cursor.Cursor.run.Goals as goal
 
 pub returns-then-not-eat-clause-is : goal.returns-then-not-eat-clause-is

@@ -1,4 +1,4 @@
-use Rattle.c_expr.specs.Parser.{run}
+use Rattle.c_expr.specs.inner.Parser.{run}
 use Rattle.c_expr.proofs.Runs.{IsCounted}
 use Rattle.c_expr.proofs.cursor.Cursor.run.Given as goal
 

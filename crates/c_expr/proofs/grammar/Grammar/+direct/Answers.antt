@@ -1,7 +1,6 @@
 use Rattle.std.proofs.Common.{ap, rules, arith, ◌-◌}
-use Rattle.c_expr.specs.Nests.{below}
-use Rattle.c_expr.proofs.Depths.{below_zero}
-use Rattle.c_expr.proofs.Fields.{direct_at, direct_plain, direct_more}
+use Rattle.c_expr.specs.inner.Nests.{below}
+use Rattle.c_expr.proofs.ReadersLemmas.{below_zero, direct_at, direct_plain, direct_more}
 use Rattle.c_expr.proofs.grammar.Grammar.+direct.Goals as goal
 
 pub direct-returns-then-count-eq0-clause-reads : goal.direct-returns-then-count-eq0-clause-reads

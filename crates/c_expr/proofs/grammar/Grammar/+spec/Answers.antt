@@ -1,10 +1,10 @@
 use Rattle.std.proofs.Common.{ap, rules, arith}
 use Rattle.std.proofs.lemmas.Grind.{common_steps}
-use Rattle.c_expr.specs.Nests.{below}
-use Rattle.c_expr.specs.Readers as reader
-use Rattle.c_expr.specs.Readers.{members, members_from}
-use Rattle.c_expr.proofs.Depths.{below_zero}
-use Rattle.c_expr.proofs.Turns.{next_turn, last_turn}
+use Rattle.c_expr.specs.inner.Nests.{below}
+use Rattle.c_expr.specs.inner.Readers as reader
+use Rattle.c_expr.specs.inner.Readers.{members, members_from}
+use Rattle.c_expr.proofs.ReadersLemmas.{below_zero}
+use Rattle.c_expr.specs.inner.ParserLemmas.{next_turn, last_turn}
 use Rattle.c_expr.proofs.grammar.Grammar.+spec.Goals as goal
 
 pub member-returns-then-self-eq0-clause-reads : goal.member-returns-then-self-eq0-clause-reads

@@ -1,6 +1,6 @@
 use Rattle.std.proofs.Common.{◌≡◌, ◌+◌, ◌*◌, ◌≤◌, ◌-◌}
-use Rattle.c_expr.specs.Nests.{below}
-use Rattle.c_expr.specs.Readers.{members, members_from}
+use Rattle.c_expr.specs.inner.Nests.{below}
+use Rattle.c_expr.specs.inner.Readers.{members, members_from}
 use Rattle.c_expr.proofs.grammar.Grammar.+spec.Given as goal
 
 abbrev pub decreases-spec : goal.decreases-spec

@@ -1,6 +1,6 @@
 use Rattle.std.proofs.Common.{◌≡◌, ◌+◌, ◌-◌, ◌≤◌}
-use Rattle.c_expr.specs.Nests.{below}
-use Rattle.c_expr.specs.Readers.{close}
+use Rattle.c_expr.specs.inner.Nests.{below}
+use Rattle.c_expr.specs.inner.Readers.{close}
 use Rattle.c_expr.proofs.grammar.Grammar.close.Given as goal
 
 abbrev pub invariant-loop-pair : goal.invariant-loop-pair

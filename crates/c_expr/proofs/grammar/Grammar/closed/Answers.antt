@@ -1,8 +1,8 @@
 use Rattle.std.proofs.Common.{rules, arith, ◌-◌}
 use Rattle.std.proofs.lemmas.Grind.{common_steps}
-use Rattle.c_expr.specs.Nests.{below}
-use Rattle.c_expr.specs.Readers.{closed}
-use Rattle.c_expr.proofs.Turns.{next_turn, last_turn}
+use Rattle.c_expr.specs.inner.Nests.{below}
+use Rattle.c_expr.specs.inner.Readers.{closed}
+use Rattle.c_expr.specs.inner.ParserLemmas.{next_turn, last_turn}
 use Rattle.c_expr.proofs.grammar.Grammar.closed.Goals as goal
 
 pub returns-in_err-whole-clause-reads : goal.returns-in_err-whole-clause-reads

@@ -1,8 +1,8 @@
 use Rattle.std.proofs.Common.{◌≡◌, ℕ, ◌+◌, ◌≤◌, ◌-◌}
-use Rattle.c_expr.specs.Nests.{below}
+use Rattle.c_expr.specs.inner.Nests.{below}
 use Rattle.c_expr.specs.declared.brackets.Bracketed.{Bracketed}
-use Rattle.c_expr.specs.Parser.{Parser}
-use Rattle.c_expr.specs.Readers.{closed}
+use Rattle.c_expr.specs.inner.Parser.{Parser}
+use Rattle.c_expr.specs.inner.Readers.{closed}
 use Rattle.c_expr.proofs.grammar.Grammar.closed.Given as goal
 
 abbrev pub invariant-loop-turn : goal.invariant-loop-turn

@@ -1,6 +1,6 @@
 use Rattle.std.proofs.Common.{rules, arith}
-use Rattle.c_expr.specs.Readers as reader
-use Rattle.c_expr.proofs.Fields.{declarator_zero, declarator_some}
+use Rattle.c_expr.specs.inner.Readers as reader
+use Rattle.c_expr.proofs.ReadersLemmas.{declarator_zero, declarator_some}
 use Rattle.c_expr.proofs.grammar.Grammar.declarator.Goals as goal
 
 pub returns-then-self-eq0-clause-reads : goal.returns-then-self-eq0-clause-reads

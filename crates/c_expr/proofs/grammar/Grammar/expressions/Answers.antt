@@ -1,8 +1,8 @@
 use Rattle.std.proofs.Common.{rules, arith}
 use Rattle.std.proofs.lemmas.Grind.{common_steps}
-use Rattle.c_expr.specs.Nests.{below}
-use Rattle.c_expr.specs.Parser.{separated, separated_from}
-use Rattle.c_expr.proofs.Turns.{next_turn, last_turn}
+use Rattle.c_expr.specs.inner.Nests.{below}
+use Rattle.c_expr.specs.inner.Parser.{separated, separated_from}
+use Rattle.c_expr.specs.inner.ParserLemmas.{next_turn, last_turn}
 use Rattle.c_expr.proofs.grammar.Grammar.expressions.Goals as goal
 
 pub loop-turn-init : goal.loop-turn-init

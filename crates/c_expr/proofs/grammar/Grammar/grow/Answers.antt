@@ -1,9 +1,8 @@
-use Rattle.std.proofs.Common.{rules, arith}
+use Rattle.std.proofs.Common.{rules, arith, ◌-◌}
 use Rattle.std.proofs.lemmas.Grind.{common_steps}
-use Rattle.std.proofs.Common.{◌-◌}
-use Rattle.c_expr.specs.Nests.{below}
-use Rattle.c_expr.specs.Readers.{grow, grow_from}
-use Rattle.c_expr.proofs.Turns.{next_turn, last_turn}
+use Rattle.c_expr.specs.inner.Nests.{below}
+use Rattle.c_expr.specs.inner.Readers.{grow, grow_from}
+use Rattle.c_expr.specs.inner.ParserLemmas.{next_turn, last_turn}
 use Rattle.c_expr.proofs.grammar.Grammar.grow.Goals as goal
 
 pub loop-turn-init : goal.loop-turn-init

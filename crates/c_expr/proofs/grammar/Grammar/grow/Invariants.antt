@@ -1,6 +1,6 @@
 use Rattle.std.proofs.Common.{◌≡◌, ◌+◌, ◌-◌, ◌≤◌}
-use Rattle.c_expr.specs.Nests.{below}
-use Rattle.c_expr.specs.Readers.{grow, grow_from}
+use Rattle.c_expr.specs.inner.Nests.{below}
+use Rattle.c_expr.specs.inner.Readers.{grow, grow_from}
 use Rattle.c_expr.proofs.grammar.Grammar.grow.Given as goal
 
 abbrev pub invariant-loop-turn : goal.invariant-loop-turn

@@ -1,5 +1,5 @@
 use Rattle.std.proofs.Common.{ap}
-use Rattle.c_expr.proofs.Depths.{below_zero}
+use Rattle.c_expr.proofs.ReadersLemmas.{below_zero}
 use Rattle.c_expr.proofs.grammar.Grammar.inner_type_word.Goals as goal
 
 pub returns-then-self-eq0-clause-reads : goal.returns-then-self-eq0-clause-reads

@@ -1,6 +1,6 @@
 use Rattle.std.proofs.Common.{◌≡◌, ◌≤◌, ◌-◌}
-use Rattle.c_expr.specs.Parser.{separated, separated_from}
-use Rattle.c_expr.specs.Readers.{readers, param}
+use Rattle.c_expr.specs.inner.Parser.{separated, separated_from}
+use Rattle.c_expr.specs.inner.Readers.{readers, param}
 use Rattle.c_expr.proofs.grammar.Grammar.param_list.Given as goal
 
 abbrev pub invariant-loop-turn : goal.invariant-loop-turn

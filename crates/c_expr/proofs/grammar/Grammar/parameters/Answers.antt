@@ -1,6 +1,6 @@
 use Rattle.std.proofs.Common.{rules}
-use Rattle.c_expr.specs.Readers as reader
-use Rattle.c_expr.proofs.Fields.{params_at}
+use Rattle.c_expr.specs.inner.Readers as reader
+use Rattle.c_expr.proofs.ReadersLemmas.{params_at}
 use Rattle.c_expr.proofs.grammar.Grammar.parameters.Goals as goal
 
 pub returns-then-sees-clause-reads : goal.returns-then-sees-clause-reads

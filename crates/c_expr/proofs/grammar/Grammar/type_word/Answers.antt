@@ -1,6 +1,6 @@
 use Rattle.std.proofs.Common.{rules, arith}
-use Rattle.c_expr.specs.Readers as reader
-use Rattle.c_expr.proofs.Fields.{type_word_zero, type_word_some}
+use Rattle.c_expr.specs.inner.Readers as reader
+use Rattle.c_expr.proofs.ReadersLemmas.{type_word_zero, type_word_some}
 use Rattle.c_expr.proofs.grammar.Grammar.type_word.Goals as goal
 
 pub returns-then-self-eq0-clause-reads : goal.returns-then-self-eq0-clause-reads

@@ -1,5 +1,5 @@
 use Rattle.std.proofs.Common.{rules, ◌∙◌, ap, List, ℕ}
-use Rattle.c_expr.specs.Readers.{is_type_name}
+use Rattle.c_expr.specs.inner.Readers.{is_type_name}
 use Rattle.c_expr.proofs.NamesSet.{insert_key_answers}
 use Rattle.c_expr.proofs.names.Names.push.Goals as goal
 

@@ -1,0 +1,14 @@
+pub mod DeclaratorsBegin
+pub mod NamedParametersAreToldApart
+pub mod Suffixes
+pub mod TypeWords
+pub mod Declarators
+pub mod Specs
+pub mod Operands
+pub mod Parts
+pub mod Heads
+pub mod Expressions
+pub mod EachDepth
+pub mod ReadersAreComplete
+pub mod ReadersReadLongest
+pub mod LongestExpressions

@@ -1,0 +1,102 @@
+//! The functions that read at each depth, by the rules of that depth.
+
+ghost use Rattle.std.specs.Prelude.{◌≡◌, ◌≤◌, ◌<◌, ◌^◌, true, IfOk};
+ghost use Rattle.c_expr.specs.inner.Readers.{readers};
+ghost use Rattle.c_expr.specs.inner.Reads.{Reads};
+
+use crate::cursor::Cursor;
+use crate::error::Failure;
+use crate::grammar::Grammar;
+use crate::names::Names;
+use c_tree::{Declarator, Expr, Params, Spec};
+use std::alloc::Global;
+
+/// An expression of this level or a tighter one.
+#[cycle(nests)]
+pub fn expr(
+    alloc: Global,
+    names: &Names,
+    tokens: &mut Cursor<'_>,
+    depth: usize,
+    least: usize,
+) -> Result<(Expr, usize), Failure>
+    requires { depth < 2 ^ 32 }
+    ensures reads { Reads ((readers names.now depth).expr least tokens.old) result tokens.new }
+    ensures height { IfOk result (λ e. e.1 ≤ depth) }
+{
+    if depth == 0 {
+        return Err(Failure::Mismatch);
+    }
+    Grammar {
+        alloc,
+        names,
+        depth,
+        expr,
+        params,
+    }
+    .level(tokens, least)
+}
+
+/// Parameters.
+#[cycle(nests)]
+pub fn params(
+    alloc: Global,
+    names: &Names,
+    tokens: &mut Cursor<'_>,
+    depth: usize,
+) -> Result<(Params, usize), Failure>
+    requires { depth < 2 ^ 32 }
+    ensures reads { Reads ((readers names.now depth).params tokens.old) result tokens.new }
+    ensures height { IfOk result (λ p. p.1 ≤ depth) }
+{
+    Grammar {
+        alloc,
+        names,
+        depth,
+        expr,
+        params,
+    }
+    .parameters(tokens)
+}
+
+/// What stands in front of a declarator. Structs in it may have bodies.
+pub fn spec(
+    alloc: Global,
+    names: &Names,
+    tokens: &mut Cursor<'_>,
+    depth: usize,
+) -> Result<(Spec, usize), Failure>
+    requires { depth < 2 ^ 32 }
+    ensures reads { Reads ((readers names.now depth).spec true tokens.old) result tokens.new }
+    ensures height { IfOk result (λ s. s.1 ≤ depth) }
+{
+    Grammar {
+        alloc,
+        names,
+        depth,
+        expr,
+        params,
+    }
+    .spec(tokens, true)
+}
+
+/// A declarator.
+pub fn declarator(
+    alloc: Global,
+    names: &Names,
+    tokens: &mut Cursor<'_>,
+    depth: usize,
+) -> Result<(Declarator, usize), Failure>
+    requires { depth < 2 ^ 32 }
+    ensures reads { Reads ((readers names.now depth).declarator tokens.old) result tokens.new }
+    ensures height { IfOk result (λ d. d.1 ≤ depth) }
+{
+    Grammar {
+        alloc,
+        names,
+        depth,
+        expr,
+        params,
+    }
+    .declarator(tokens)
+}

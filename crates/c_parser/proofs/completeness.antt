@@ -1,0 +1,4 @@
+pub mod StatementsBegin
+pub mod Declarations
+pub mod Statements
+pub mod Items

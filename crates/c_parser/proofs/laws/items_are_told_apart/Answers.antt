@@ -1,7 +1,0 @@
-use Rattle.c_expr.proofs.Complete.{readers_are_complete}
-use Rattle.c_expr.proofs.Sound.{readers_are_sound}
-use Rattle.c_parser.proofs.Sources as sources
-use Rattle.c_parser.proofs.laws.items_are_told_apart.Goals as goal
-
-pub returns : goal.returns
-returns c = sources.items_are_told_apart readers_are_sound readers_are_complete c.declarators_declare_their_names.ensures
