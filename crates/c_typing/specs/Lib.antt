@@ -1,3 +1,2 @@
-pub mod Trees
-pub mod Initialisers
-pub mod Statements
+pub mod Leaves
+pub mod inner

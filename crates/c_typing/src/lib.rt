@@ -1,0 +1,4 @@
+//! The typed form of a source, or the first rule that it breaks.
+#![tactic(auto)]
+
+mod leaves;
