@@ -1,1 +1,3 @@
 mod InitForms
+mod StatementForms
+mod ItemLists

@@ -1,1 +1,2 @@
 pub mod LeafForms
+pub mod Refusals
