@@ -1,3 +1,4 @@
 mod InitForms
 mod StatementForms
 mod ItemLists
+mod OneVerdict

@@ -13,7 +13,9 @@ use Rattle.c_tree.specs.FoldStatements.{StatementPass}
 use Rattle.c_tree.specs.inner.FoldStatementsEquations as tree
 use Rattle.c_typed.specs.declared.statement.TypedStmt.TheVariants as stmt
 use Rattle.c_scope.specs.declared.world.World.{World}
-use Rattle.c_typing.specs.Statements.{FoundStatements, block_item_step, block_step, block_walked, do_walked, expr_walked, for_step, for_walked, if_alone, if_else, jump, return_walked, statement_steps, walked_statements, while_walked}
+use Rattle.c_typing.specs.Statements.{FoundStatements, block_item_step, block_step, block_walked, do_walked}
+use Rattle.c_typing.specs.Statements.{expr_walked, for_step, for_walked, if_alone, if_else, jump, return_walked}
+use Rattle.c_typing.specs.Statements.{statement_steps, walked_statements, while_walked}
 
 module _ (returns : Ty) where
   -- what is walked
@@ -97,7 +99,8 @@ module _ (returns : Ty) where
   unfolding walked_statements
   for_loop-of l in_loop w = ap (λ f. f in_loop w) (tree.for_loop-of (statement_steps returns) l)
 
-pub ruleset statements = (stmt-Block, stmt-If-alone, stmt-If-else, stmt-While, stmt-Do, stmt-For, stmt-Break, stmt-Continue, stmt-Return, stmt-Expr)
+pub ruleset statements = (stmt-Block, stmt-If-alone, stmt-If-else, stmt-While, stmt-Do, stmt-For, stmt-Break,
+    stmt-Continue, stmt-Return, stmt-Expr)
 
 pub ruleset block_items = (block_item-Decl, block_item-Stmt)
 

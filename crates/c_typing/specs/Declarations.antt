@@ -1,5 +1,6 @@
 -- The walk of declarations and of what defines types: each declarator in source order, then the rules of its name.
-use Rattle.std.specs.Prelude.{ℕ, ◌+◌, Bool, true, false, ◌||◌, if◌then◌else◌, nat_le, List, length, map, Option, Some, None}
+use Rattle.std.specs.Prelude.{ℕ, ◌+◌, Bool, true, false, ◌||◌, if◌then◌else◌, nat_le, List, length, map}
+use Rattle.std.specs.Prelude.{Option, Some, None}
 use Rattle.std.specs.Option.{option_map}
 use Rattle.c_layers.specs.declared.layer.Shape.{Shape}
 use Rattle.c_layers.specs.declared.layer.Shape.TheVariants as shape

@@ -16,7 +16,8 @@ use Rattle.c_typed.specs.declared.unit.Local.{Local}
 use Rattle.c_typed.specs.declared.unit.TypedFn.{TypedFn}
 use Rattle.c_scope.specs.declared.rule.Rule.TheVariants as broken
 use Rattle.c_scope.specs.BuiltIns.{Name}
-use Rattle.c_scope.specs.Definitions.{all_named, bind_parameters, declare_function, mark_defined, may_be_defined, own_parameters}
+use Rattle.c_scope.specs.Definitions.{all_named, bind_parameters, declare_function, mark_defined, may_be_defined}
+use Rattle.c_scope.specs.Definitions.{own_parameters}
 use Rattle.c_scope.specs.Scopes.{within}
 use Rattle.c_scope.specs.Walk.{Walk, ◌>>=◌, ◌>>◌, change, found, pure, rule, world}
 use Rattle.c_expr_typing.specs.declared.layered.LayeredDeclarator.{LayeredDeclarator}

@@ -173,8 +173,8 @@ fn declare(
     declarator: &LayeredDeclarator,
     init: Option<&Init>,
 ) -> Result<(Ty, Entity), Failure>
-    ensures { Walks (spec.declare is_global base.now declarator.now (option_copied init.entry) world.old)
-        result world.new }
+    ensures { let i = option_copied init.entry
+        in Walks (spec.declare is_global base.now declarator.now i world.old) result world.new }
 {
     let ty = shaped_type(alloc, world, base, declarator, init)?;
     let entity = declare_by(alloc, world, is_global, &declarator.name, &ty)?;
@@ -189,7 +189,8 @@ fn optional_init(
     ty: &Ty,
     init: Option<&Init>,
 ) -> Result<Option<TypedInit>, Failure>
-    ensures { Walks (spec.optional_init is_global ty.now (option_copied init.entry) world.old) result world.new }
+    ensures { Walks (spec.optional_init is_global ty.now (option_copied init.entry) world.old)
+        result world.new }
 {
     match init {
         None => Ok(None),
@@ -206,8 +207,8 @@ fn declare_all(
     declarator: &LayeredDeclarator,
     init: Option<&Init>,
 ) -> Result<(Ty, Entity, Option<TypedInit>), Failure>
-    ensures { Walks (spec.declare_all is_global base.now declarator.now (option_copied init.entry) world.old)
-        result world.new }
+    ensures { let i = option_copied init.entry
+        in Walks (spec.declare_all is_global base.now declarator.now i world.old) result world.new }
 {
     let (ty, entity) = declare(alloc, world, is_global, base, declarator, init)?;
     let init = optional_init(alloc, world, is_global, &ty, init)?;
@@ -223,7 +224,8 @@ fn init_declarator(
     base: &Ty,
     one: &InitDeclarator,
 ) -> Result<TypedInitDeclarator, Failure>
-    ensures { Walks (spec.typed_init_declarator is_global base.now one.now world.old) result world.new }
+    ensures { Walks (spec.typed_init_declarator is_global base.now one.now world.old)
+        result world.new }
 {
     let inside = declarator(alloc, world, &one.declarator)?;
     let (ty, entity, init) =

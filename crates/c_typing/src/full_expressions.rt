@@ -129,7 +129,8 @@ pub(crate) fn return_statement(
     returns: &Ty,
     e: Option<&FullExpr>,
 ) -> Result<TypedStmt, Failure>
-    ensures { Walks (spec.return_walked returns.now (option_copied e.entry) world.old) result world.new }
+    ensures { Walks (spec.return_walked returns.now (option_copied e.entry) world.old)
+        result world.new }
 {
     let value = optional(alloc, world, e)?;
     returned_rules(alloc, world, returns, value.as_ref())?;
@@ -162,8 +163,9 @@ pub(crate) fn for_head(
     condition: Option<&FullExpr>,
     step: Option<&FullExpr>,
 ) -> Result<(TypedForInit, Option<TypedFullExpr>, Option<TypedFullExpr>), Failure>
-    ensures { Walks (spec.for_head init.now (option_copied condition.entry) (option_copied step.entry) world.old)
-        result world.new }
+    ensures { let c = option_copied condition.entry
+        in let s = option_copied step.entry
+        in Walks (spec.for_head init.now c s world.old) result world.new }
 {
     let init = for_init(alloc, world, init)?;
     let condition = optional_condition(alloc, world, condition)?;

@@ -112,7 +112,8 @@ fn function_body(
     function: &FnTy,
     inside: &Block,
 ) -> Result<TypedBlock, Failure>
-    ensures { Walks (spec.function_body layers.now function.now inside.now world.old) result world.new }
+    ensures { Walks (spec.function_body layers.now function.now inside.now world.old)
+        result world.new }
 {
     world.enter()?;
     bind_own(alloc, world, layers)?;
@@ -136,7 +137,8 @@ fn function_parts(
     declarator: &LayeredDeclarator,
     inside: &Block,
 ) -> Result<(Shared<FnTy>, Items<Local>, TypedBlock), Failure>
-    ensures { Walks (spec.function_parts base.now declarator.now inside.now world.old) result world.new }
+    ensures { Walks (spec.function_parts base.now declarator.now inside.now world.old)
+        result world.new }
 {
     let function = define_function(alloc, world, base, declarator)?;
     let layers = declarator.layers.as_slice();
@@ -158,7 +160,8 @@ pub(crate) fn function(
     outer: &Declarator,
     inside: &Block,
 ) -> Result<TypedFn, Failure>
-    ensures { Walks (spec.typed_function base.0 base.1 outer.now inside.now world.old) result world.new }
+    ensures { Walks (spec.typed_function base.0 base.1 outer.now inside.now world.old)
+        result world.new }
 {
     let (spec, base) = base;
     let layered = declarator(alloc, world, outer)?;

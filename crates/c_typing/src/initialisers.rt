@@ -87,7 +87,8 @@ fn leaf_rules(
     target: Option<&Ty>,
     x: &TypedExpr,
 ) -> Result<(), Failure>
-    ensures { Walks (spec.leaf_rules is_global (option_copied target.entry) x.now world.now) result world.now }
+    ensures { Walks (spec.leaf_rules is_global (option_copied target.entry) x.now world.now)
+        result world.now }
 {
     match target {
         None => Ok(()),
@@ -103,7 +104,8 @@ fn given_value(
     target: Option<&Ty>,
     e: &Expr,
 ) -> Result<TypedInit, Failure>
-    ensures { Walks (spec.given_value is_global (option_copied target.entry) e.now world.old) result world.new }
+    ensures { Walks (spec.given_value is_global (option_copied target.entry) e.now world.old)
+        result world.new }
 {
     let x = expression(alloc, world, e, Place::Value)?;
     leaf_rules(alloc, world, is_global, target, &x)?;
@@ -118,7 +120,8 @@ fn given(
     target: Option<&Ty>,
     e: &Expr,
 ) -> Result<TypedInit, Failure>
-    ensures { Walks (spec.given is_global (option_copied target.entry) e.now world.old) result world.new }
+    ensures { Walks (spec.given is_global (option_copied target.entry) e.now world.old)
+        result world.new }
 {
     if let Some(bytes) = text_of(e) {
         if let Some(units) = char_target(target) {
@@ -176,7 +179,8 @@ fn has_parts(structs: &StructTable, count: usize, ty: &Ty) -> bool
 
 /// What is asked of so many parts.
 fn parts_rule(world: &World, target: Option<&Ty>, count: usize) -> Result<(), Failure>
-    ensures { Walks (spec.parts_rule (option_copied target.entry) count world.now) result world.now }
+    ensures { Walks (spec.parts_rule (option_copied target.entry) count world.now)
+        result world.now }
 {
     match target {
         None => Ok(()),
@@ -198,7 +202,8 @@ pub(crate) fn initialiser(
     init: &Init,
     target: Option<&Ty>,
 ) -> Result<TypedInit, Failure>
-    ensures { Walks (typed_init is_global init.now (option_copied target.entry) world.old) result world.new }
+    ensures { Walks (typed_init is_global init.now (option_copied target.entry) world.old)
+        result world.new }
 {
     match init {
         Init::Expr(e) => given(alloc, world, is_global, target, e),
@@ -215,8 +220,8 @@ fn braces(
     target: Option<&Ty>,
     all: &[Init],
 ) -> Result<TypedInit, Failure>
-    ensures { Walks (spec.braces (option_copied target.entry) (map (typed_init is_global) all.now) world.old)
-        result world.new }
+    ensures { let ps = map (typed_init is_global) all.now
+        in Walks (spec.braces (option_copied target.entry) ps world.old) result world.new }
 {
     let found = parts(alloc, world, is_global, target, all)?;
     parts_rule(world, target, found.len())?;
@@ -233,7 +238,8 @@ fn parts(
     target: Option<&Ty>,
     all: &[Init],
 ) -> Result<Items<TypedInit>, Failure>
-    ensures { Walks (each (spec.parts_from 0 (option_copied target.entry) (map (typed_init is_global) all.now)) world.old)
+    ensures { let ps = map (typed_init is_global) all.now
+        in Walks (each (spec.parts_from 0 (option_copied target.entry) ps) world.old)
         result world.new }
 {
     let mut found = Items::new(alloc);
@@ -253,8 +259,8 @@ fn part(
     i: usize,
     init: &Init,
 ) -> Result<TypedInit, Failure>
-    ensures { Walks (spec.one_part i (option_copied target.entry) (typed_init is_global init.now) world.old)
-        result world.new }
+    ensures { let p = typed_init is_global init.now
+        in Walks (spec.one_part i (option_copied target.entry) p world.old) result world.new }
 {
     let ty = part_type(&world.structs, i, target)?;
     initialiser(alloc, world, is_global, init, ty.as_ref())

@@ -38,7 +38,8 @@ fn function_item(
     declarator: &Declarator,
     inside: &Block,
 ) -> Result<TypedItem, Failure>
-    ensures { Walks (spec.function_item base.now declarator.now inside.now world.old) result world.new }
+    ensures { Walks (spec.function_item base.now declarator.now inside.now world.old)
+        result world.new }
 {
     let base = spec(alloc, world, base, true)?;
     let function = function(alloc, world, base, declarator, inside)?;

@@ -71,7 +71,8 @@ fn is_place_form(e: &TypedExpr) -> bool
 /// Whether it is a constant index inside the array.
 #[tactic(auto, using(crate::specs::inner::LeafForms::leaves))]
 fn is_index(a: &TypedExpr, i: &TypedExpr) -> bool
-    ensures { result ≡ spec.is_below (spec.leaf i.now).constant (bound_of_type (spec.leaf a.now).ty) }
+    ensures { result
+        ≡ spec.is_below (spec.leaf i.now).constant (bound_of_type (spec.leaf a.now).ty) }
 {
     is_below(i.constant, bound_of(&a.ty))
 }

@@ -1,7 +1,6 @@
 //! The typed form of a source, or the first rule that it breaks.
 #![tactic(auto)]
 
-mod check;
 mod declarations;
 mod error;
 mod full_expressions;
@@ -9,7 +8,10 @@ mod functions;
 mod initialisers;
 mod items;
 mod leaves;
+mod sources;
 mod statements;
+mod theorems;
 
-pub use check::check;
 pub use error::CheckRefusal;
+pub use sources::check;
+pub use theorems::sources_have_one_verdict;

@@ -25,7 +25,8 @@ fn statement(
     in_loop: bool,
     stmt: &Stmt,
 ) -> Result<TypedStmt, Failure>
-    ensures { Walks ((walked_statements returns.now).stmt stmt.now in_loop world.old) result world.new }
+    ensures { Walks ((walked_statements returns.now).stmt stmt.now in_loop world.old)
+        result world.new }
 {
     match stmt {
         Stmt::Block(inside) => block_statement(alloc, world, returns, in_loop, inside),
@@ -74,8 +75,8 @@ fn block_statement(
     in_loop: bool,
     inside: &Block,
 ) -> Result<TypedStmt, Failure>
-    ensures { Walks (spec.block_walked ((walked_statements returns.now).block inside.now) in_loop world.old)
-        result world.new }
+    ensures { let of = walked_statements returns.now
+        in Walks (spec.block_walked (of.block inside.now) in_loop world.old) result world.new }
 {
     world.enter()?;
     let inside = block(alloc, world, returns, in_loop, inside)?;
@@ -93,7 +94,8 @@ fn if_alone(
     test: &FullExpr,
     then_branch: &Stmt,
 ) -> Result<TypedStmt, Failure>
-    ensures { Walks (spec.if_alone test.now ((walked_statements returns.now).stmt then_branch.now) in_loop world.old)
+    ensures { let of = walked_statements returns.now
+        in Walks (spec.if_alone test.now (of.stmt then_branch.now) in_loop world.old)
         result world.new }
 {
     let condition = condition(alloc, world, test)?;
@@ -117,7 +119,8 @@ fn if_else(
     other: &Stmt,
 ) -> Result<TypedStmt, Failure>
     ensures { let of = (walked_statements returns.now).stmt
-        in Walks (spec.if_else test.now (of then_branch.now) (of other.now) in_loop world.old) result world.new }
+        in Walks (spec.if_else test.now (of then_branch.now) (of other.now) in_loop world.old)
+        result world.new }
 {
     let condition = condition(alloc, world, test)?;
     let (then_branch, other) = branches(alloc, world, returns, in_loop, then_branch, other)?;
@@ -139,7 +142,8 @@ fn branches(
     other: &Stmt,
 ) -> Result<(Boxed<TypedStmt>, Boxed<TypedStmt>), Failure>
     ensures { let of = (walked_statements returns.now).stmt
-        in Walks (spec.branches (of then_branch.now) (of other.now) in_loop world.old) result world.new }
+        in Walks (spec.branches (of then_branch.now) (of other.now) in_loop world.old)
+        result world.new }
 {
     let then_branch = boxed_statement(alloc, world, returns, in_loop, then_branch)?;
     let other = boxed_statement(alloc, world, returns, in_loop, other)?;
@@ -155,7 +159,8 @@ fn boxed_statement(
     in_loop: bool,
     stmt: &Stmt,
 ) -> Result<Boxed<TypedStmt>, Failure>
-    ensures { Walks ((walked_statements returns.now).stmt stmt.now in_loop world.old) result world.new }
+    ensures { Walks ((walked_statements returns.now).stmt stmt.now in_loop world.old)
+        result world.new }
 {
     let made = statement(alloc, world, returns, in_loop, stmt)?;
     Ok(Boxed::new(alloc, made)?)
@@ -170,8 +175,8 @@ fn while_statement(
     test: &FullExpr,
     body: &Stmt,
 ) -> Result<TypedStmt, Failure>
-    ensures { Walks (spec.while_walked test.now ((walked_statements returns.now).stmt body.now) world.old)
-        result world.new }
+    ensures { let of = walked_statements returns.now
+        in Walks (spec.while_walked test.now (of.stmt body.now) world.old) result world.new }
 {
     let condition = condition(alloc, world, test)?;
     let body = boxed_statement(alloc, world, returns, true, body)?;
@@ -187,8 +192,8 @@ fn do_statement(
     body: &Stmt,
     test: &FullExpr,
 ) -> Result<TypedStmt, Failure>
-    ensures { Walks (spec.do_walked ((walked_statements returns.now).stmt body.now) test.now world.old)
-        result world.new }
+    ensures { let of = walked_statements returns.now
+        in Walks (spec.do_walked (of.stmt body.now) test.now world.old) result world.new }
 {
     let body = boxed_statement(alloc, world, returns, true, body)?;
     let condition = condition(alloc, world, test)?;
@@ -204,8 +209,8 @@ fn for_statement(
     in_loop: bool,
     inside: &ForLoop,
 ) -> Result<TypedStmt, Failure>
-    ensures { Walks (spec.for_walked ((walked_statements returns.now).for_loop inside.now) in_loop world.old)
-        result world.new }
+    ensures { let of = walked_statements returns.now
+        in Walks (spec.for_walked (of.for_loop inside.now) in_loop world.old) result world.new }
 {
     world.enter()?;
     let inside = for_loop(alloc, world, returns, in_loop, inside)?;
@@ -223,7 +228,8 @@ fn for_loop(
     in_loop: bool,
     inside: &ForLoop,
 ) -> Result<TypedForLoop, Failure>
-    ensures { Walks ((walked_statements returns.now).for_loop inside.now in_loop world.old) result world.new }
+    ensures { Walks ((walked_statements returns.now).for_loop inside.now in_loop world.old)
+        result world.new }
 {
     let (init, condition, step) = for_head(
         alloc,
@@ -255,7 +261,8 @@ pub(crate) fn block(
     in_loop: bool,
     inside: &Block,
 ) -> Result<TypedBlock, Failure>
-    ensures { Walks ((walked_statements returns.now).block inside.now in_loop world.old) result world.new }
+    ensures { Walks ((walked_statements returns.now).block inside.now in_loop world.old)
+        result world.new }
 {
     let items = block_items(alloc, world, returns, in_loop, inside.items.as_slice())?;
     Ok(TypedBlock { items })
@@ -271,8 +278,8 @@ fn block_items(
     in_loop: bool,
     all: &[BlockItem],
 ) -> Result<Items<TypedBlockItem>, Failure>
-    ensures { Walks (spec.block_items (map (walked_statements returns.now).block_item all.now) in_loop world.old)
-        result world.new }
+    ensures { let of = walked_statements returns.now
+        in Walks (spec.block_items (map of.block_item all.now) in_loop world.old) result world.new }
 {
     let mut found = Items::new(alloc);
     for item in all {
@@ -291,7 +298,8 @@ fn block_item(
     in_loop: bool,
     item: &BlockItem,
 ) -> Result<TypedBlockItem, Failure>
-    ensures { Walks ((walked_statements returns.now).block_item item.now in_loop world.old) result world.new }
+    ensures { Walks ((walked_statements returns.now).block_item item.now in_loop world.old)
+        result world.new }
 {
     match item {
         BlockItem::Decl(decl) => {

@@ -52,5 +52,6 @@ decreases-block_item l = 5 * size-BlockItem l.item.now + 1
 -- what is found and what is left are the whole list
 abbrev pub invariant-block_items-loop-item : goal.invariant-block_items-loop-item
 invariant-block_items-loop-item l =
-    each_from l.found (map (λ i. i l.in_loop) (map (walked_statements l.returns).block_item (drop l.item-index l.all))) l.world
-    ≡ block_items (map (walked_statements l.returns).block_item l.all) l.in_loop l.initial.world
+    let of = walked_statements l.returns
+    in each_from l.found (map (λ i. i l.in_loop) (map of.block_item (drop l.item-index l.all))) l.world
+        ≡ block_items (map of.block_item l.all) l.in_loop l.initial.world
