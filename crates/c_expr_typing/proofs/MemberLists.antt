@@ -65,7 +65,7 @@ declarators_by_first : (base : Ty) (found : List Declared) (ds : List (Walk Laye
     → ((front : List Declared) (before : List Member) (w : World) → declarators_from base front ds before w ≡ behind front (member_declarators base ds before w))
     → (r : Outcome (LayeredDeclarator × World))
     → and_then r (λ x. one_member base x before >>= (λ m. declarators_from base (found ++ m.0 ∷ []) ds m.1))
-      ≡ behind found (and_then r (λ x. one_member base x before >>= (λ m. member_declarators base ds m.1 >>= (λ rest. pure (m.0 ∷ rest.0, rest.1)))))
+    ≡ behind found (and_then r (λ x. one_member base x before >>= (λ m. member_declarators base ds m.1 >>= (λ rest. pure (m.0 ∷ rest.0, rest.1)))))
 declarators_by_first base found ds before rest (Err e) = refl
 declarators_by_first base found ds before rest (Ok r) = declarators_by base found ds rest (one_member base r.0 before r.1)
 

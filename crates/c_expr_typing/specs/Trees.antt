@@ -203,9 +203,10 @@ layers_inside None = []
 layers_inside (Some x) = x.1
 
 abbrev pub abstract_layered : ℕ → Option (TypedAbstractDeclarator × List Layer) → List TypedSuffix × List Layer → TypedAbstractDeclarator × List Layer
-abstract_layered stars inside suffixes =
-    (roll-TypedAbstractDeclarator (record { stars = stars; bracketed = tree_inside inside; suffixes = suffixes.0 }),
-    layers_inside inside ++ suffixes.1 ++ stars_of stars)
+abstract_layered stars inside suffixes = (
+  roll-TypedAbstractDeclarator (record { stars = stars; bracketed = tree_inside inside; suffixes = suffixes.0 }),
+  layers_inside inside ++ suffixes.1 ++ stars_of stars,
+)
 
 abbrev pub abstract_step : Node Found AbstractDeclarator-F → Walk (TypedAbstractDeclarator × List Layer)
 abstract_step a = do

@@ -8,9 +8,7 @@ ghost use Rattle.c_scope.specs.Walks.{Walks};
 use crate::layered::LayeredDeclarator;
 use c_layers::{Layers, Parameter};
 use c_scope::{Failure, Meaning, Rule, World, member_type, parameter, tag, test, word_type};
-use c_typed::{
-    Constant, Declared, TypedAbstractDeclarator, TypedParam, TypedSpec, TypedTypeWord,
-};
+use c_typed::{Constant, Declared, TypedAbstractDeclarator, TypedParam, TypedSpec, TypedTypeWord};
 use c_types::{Member, Name, Ty, copy_name, copy_type};
 use std::alloc::Global;
 use tables::Table;

@@ -208,11 +208,7 @@ fn call_parts(
 /// The arguments of a call.
 #[cycle(walk)]
 #[tactic(auto, using(c_scope::specs::inner::Lists::lists))]
-fn arguments(
-    alloc: Global,
-    world: &mut World,
-    all: &[Expr],
-) -> Result<Items<TypedExpr>, Failure>
+fn arguments(alloc: Global, world: &mut World, all: &[Expr]) -> Result<Items<TypedExpr>, Failure>
     ensures { Walks (tree.arguments (map walked.expr all.now) world.old) result world.new }
 {
     let mut found = Items::new(alloc);
@@ -303,7 +299,11 @@ fn direct(
         }
         Direct::Bracketed(inside) => {
             let LayeredDeclarator { tree, name, layers } = declarator(alloc, world, inside.get())?;
-            Ok((TypedDirect::Bracketed(Boxed::new(alloc, tree)?), name, layers))
+            Ok((
+                TypedDirect::Bracketed(Boxed::new(alloc, tree)?),
+                name,
+                layers,
+            ))
         }
     }
 }
@@ -353,11 +353,7 @@ fn suffix(
 /// An array with this bound.
 #[cycle(walk)]
 #[tactic(auto, unfolding(c_rules::specs::Operators::constant_of))]
-fn bounded(
-    alloc: Global,
-    world: &mut World,
-    value: &Expr,
-) -> Result<(TypedSuffix, Layer), Failure>
+fn bounded(alloc: Global, world: &mut World, value: &Expr) -> Result<(TypedSuffix, Layer), Failure>
     ensures { Walks (tree.bounded (walked.expr value.now) world.old) result world.new }
 {
     let value = expression(alloc, world, value, Place::Value)?;
@@ -512,8 +508,13 @@ fn member_decl(
     ensures { Walks (walked.member line.now before world.old) result world.new }
 {
     let (spec, base) = spec(alloc, world, &line.spec, false)?;
-    let (declarators, members) =
-        member_declarators(alloc, world, &base, line.declarators.as_slice(), before)?;
+    let (declarators, members) = member_declarators(
+        alloc,
+        world,
+        &base,
+        line.declarators.as_slice(),
+        before,
+    )?;
     Ok((TypedMemberDecl { spec, declarators }, members))
 }
 

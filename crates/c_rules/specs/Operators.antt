@@ -45,6 +45,12 @@ form_of e = (out-TypedExpr e).form
 unfoldable pub value_type : TypedExpr → Ty
 value_type e = decay (type_of e)
 
+unfoldable pub is_scalar_value : TypedExpr → Bool
+is_scalar_value e = is_scalar (value_type e)
+
+unfoldable pub is_integer_value : TypedExpr → Bool
+is_integer_value e = is_integer (value_type e)
+
 -- a pointer that can be counted up and indexed: its target has units
 unfoldable pub is_counted : List StructDef → Ty → Bool
 is_counted defs t = passes (has_units defs) (target_of t)

@@ -36,13 +36,14 @@ use Rattle.c_scope.specs.declared.scopes.Meaning.{Meaning}
 use Rattle.c_scope.specs.declared.scopes.Meaning.TheVariants as means
 use Rattle.c_scope.specs.declared.world.World.{World}
 use Rattle.c_scope.specs.BuiltIns.{Name, built_in_named, built_in_type}
+use Rattle.c_scope.specs.Declarations.{is_function_name}
 use Rattle.c_scope.specs.Definitions.{mark_used}
 use Rattle.c_scope.specs.Scopes.{known_function, meaning_of}
 use Rattle.c_scope.specs.Walk.{Walk, ◌>>=◌, ◌>>◌, breaks, change, found, world, pure, rule}
 use Rattle.c_rules.specs.declared.place.Place.{Place}
 use Rattle.c_rules.specs.declared.place.Place.TheVariants.{Callee, Value}
 use Rattle.c_rules.specs.Constants.{of_binary, of_cast, of_conditional, of_unary}
-use Rattle.c_rules.specs.Operators.{FormLayer, chosen, constant_of, converts, form_of, is_assignable, is_lvalue, operated, takes_value, type_converts, type_of, typed, value_type}
+use Rattle.c_rules.specs.Operators.{FormLayer, chosen, constant_of, converts, form_of, is_assignable, is_integer_value, is_lvalue, is_scalar_value, operated, takes_value, type_converts, type_of, typed, value_type}
 
 -- ---- names
 
@@ -59,10 +60,17 @@ mentioned_by x (Some k) = do
 abbrev pub mentioned : Name → Walk TypedExpr
 mentioned x = world >>= (λ w. mentioned_by x (known_function w.functions x))
 
-abbrev pub meant : Name → Option Meaning → Walk TypedExpr
-meant x (Some (means.Variable e t)) = pure (named x e t)
-meant x (Some means.Function) = mentioned x
-meant x _ = breaks broken.Undeclared
+unfoldable pub means_function : World → Name → Bool
+means_function w x = is_function_name (meaning_of w.scopes x)
+
+-- a variable or a parameter; a type name is none
+abbrev pub variable : Name → Option Meaning → Walk TypedExpr
+variable x (Some (means.Variable e t)) = pure (named x e t)
+variable x _ = breaks broken.Undeclared
+
+-- a name that is no built-in's
+abbrev pub meant : Name → Walk TypedExpr
+meant x = world >>= (λ w. if means_function w x then mentioned x else variable x (meaning_of w.scopes x))
 
 abbrev pub built_in_at : Name → Place → BuiltIn → Walk TypedExpr
 built_in_at x Value b = breaks broken.Undeclared
@@ -70,7 +78,7 @@ built_in_at x Callee b = pure (named x (entity.BuiltIn b) (ty.Function (built_in
 
 abbrev pub identifier_by : Name → Place → Option BuiltIn → Walk TypedExpr
 identifier_by x place (Some b) = built_in_at x place b
-identifier_by x place None = world >>= (λ w. meant x (meaning_of w.scopes x))
+identifier_by x place None = meant x
 
 unfoldable pub identifier : Name → Place → Walk TypedExpr
 identifier x place = identifier_by x place (built_in_named x)
@@ -99,10 +107,16 @@ binary x o y = do
   t ← found (operand_rule o) (operated w.structs o x y)
   pure (typed (form.Binary x o y) t (of_binary o (constant_of x) (constant_of y)))
 
+-- what `?:` asks, and the type that it gives
+unfoldable pub conditional_type : TypedExpr → TypedExpr → TypedExpr → Walk Ty
+conditional_type c x y = do
+  t ← found broken.Operands (chosen x y)
+  rule broken.NotScalar (is_scalar_value c)
+  pure t
+
 unfoldable pub conditional : TypedExpr → TypedExpr → TypedExpr → Walk TypedExpr
 conditional c x y = do
-  t ← found broken.Operands (chosen x y)
-  rule broken.NotScalar (is_scalar (value_type c))
+  t ← conditional_type c x y
   pure (typed (form.Conditional c x y) t (of_conditional (constant_of c) (constant_of x) (constant_of y)))
 
 abbrev pub addressed_at : ℕ → List Local → List Local
@@ -115,35 +129,44 @@ mark_at (TypedForm-F.Identifier x (entity.Local n)) = change (λ w. record w { l
 mark_at _ = pure tt
 
 -- a local that is itself the operand of `&` becomes one whose address is taken
-abbrev pub mark_addressed : TypedExpr → Walk (Unit {0})
+unfoldable pub mark_addressed : TypedExpr → Walk (Unit {0})
 mark_addressed x = mark_at (out-TypedForm (form_of x))
 
 -- what its value points to
-abbrev pub pointed : TypedExpr → Walk Ty
+unfoldable pub pointed : TypedExpr → Walk Ty
 pointed x = found broken.Pointer (target_of (value_type x))
+
+unfoldable pub has_address : TypedExpr → Bool
+has_address x = is_function (type_of x) || is_lvalue x
 
 unfoldable pub address : TypedExpr → Walk TypedExpr
 address x = do
-  rule broken.NotLvalue (is_function (type_of x) || is_lvalue x)
+  rule broken.NotLvalue (has_address x)
   mark_addressed x
   pure (typed (form.Unary unary.Address x) (ty.Pointer (type_of x)) constant.Other)
 
-unfoldable pub dereference : TypedExpr → Walk TypedExpr
-dereference x = do
+-- what `*` asks, and the type that it gives
+unfoldable pub dereferenced : TypedExpr → Walk Ty
+dereferenced x = do
   w ← world
   t ← pointed x
   rule broken.Pointer (is_function t || has_units w.structs t)
+  pure t
+
+unfoldable pub dereference : TypedExpr → Walk TypedExpr
+dereference x = do
+  t ← dereferenced x
   pure (typed (form.Unary unary.Dereference x) t constant.Other)
 
 -- `-` and `~`
 unfoldable pub arithmetic : UnaryOperator → TypedExpr → Walk TypedExpr
 arithmetic o x = do
-  rule broken.Operands (is_integer (value_type x))
+  rule broken.Operands (is_integer_value x)
   pure (typed (form.Unary o x) ty.Int (of_unary o (constant_of x)))
 
 unfoldable pub negation : TypedExpr → Walk TypedExpr
 negation x = do
-  rule broken.NotScalar (is_scalar (value_type x))
+  rule broken.NotScalar (is_scalar_value x)
   pure (typed (form.Unary unary.Not x) ty.Int (of_unary unary.Not (constant_of x)))
 
 abbrev pub unary_by : UnaryOperator → TypedExpr → Walk TypedExpr
@@ -155,12 +178,18 @@ unary_by o x = arithmetic o x
 unfoldable pub unary_of : UnaryOperator → TypedExpr → Walk TypedExpr
 unary_of = unary_by
 
-unfoldable pub index : TypedExpr → TypedExpr → Walk TypedExpr
-index x i = do
+-- what an index asks, and the type that it gives
+unfoldable pub indexed : TypedExpr → TypedExpr → Walk Ty
+indexed x i = do
   w ← world
-  rule broken.Operands (is_integer (value_type i))
+  rule broken.Operands (is_integer_value i)
   t ← pointed x
   rule broken.Pointer (has_units w.structs t)
+  pure t
+
+unfoldable pub index : TypedExpr → TypedExpr → Walk TypedExpr
+index x i = do
+  t ← indexed x i
   pure (typed (form.Index x i) t constant.Other)
 
 -- ---- members
@@ -181,14 +210,19 @@ unfoldable pub member_of : List StructDef → Name → Ty → Option (ℕ × Ty)
 member_of defs x t = if has_units defs t then option_and_then (member_in defs x) (struct_of t) else None
 
 -- the same, of the struct that a pointer points to
-abbrev pub member_behind : List StructDef → TypedExpr → Name → Option (ℕ × Ty)
+unfoldable pub member_behind : List StructDef → TypedExpr → Name → Option (ℕ × Ty)
 member_behind defs e x = option_and_then (member_of defs x) (target_of (value_type e))
+
+-- what `.` asks, and the member's number and type
+unfoldable pub member_found : TypedExpr → Name → Walk (ℕ × Ty)
+member_found e x = do
+  w ← world
+  rule broken.Member (is_lvalue e)
+  found broken.Member (member_of w.structs x (type_of e))
 
 unfoldable pub member : TypedExpr → Name → Walk TypedExpr
 member e x = do
-  w ← world
-  rule broken.Member (is_lvalue e)
-  m ← found broken.Member (member_of w.structs x (type_of e))
+  m ← member_found e x
   pure (typed (form.Member e x m.0) m.1 constant.Other)
 
 unfoldable pub arrow : TypedExpr → Name → Walk TypedExpr
@@ -210,7 +244,7 @@ all_convert es [] = true
 all_convert (e ∷ es) (t ∷ ts) = converts e t && all_convert es ts
 
 -- the rules of a call, and the type of its result
-abbrev pub called : TypedExpr → List TypedExpr → Walk Ty
+unfoldable pub called : TypedExpr → List TypedExpr → Walk Ty
 called e arguments = do
   f ← found broken.Call (called_type e)
   rule broken.Unconverted (all_convert arguments (out-FnTy f).params)
@@ -228,10 +262,18 @@ call e arguments = do
 unfoldable pub assigned_type : Ty → Ty
 assigned_type t = if is_struct t then ty.Void else t
 
+-- the target takes no value at all, or the value converts to it
+unfoldable pub takes : TypedExpr → TypedExpr → Bool
+takes x y = not (takes_value (type_of x)) || converts y (type_of x)
+
+-- the same of a value of this type
+unfoldable pub takes_type : TypedExpr → Ty → Bool
+takes_type x t = not (takes_value (type_of x)) || type_converts t (type_of x)
+
 -- what `x = y` asks, and the type that it gives
 unfoldable pub plain : TypedExpr → TypedExpr → Walk Ty
 plain x y = do
-  rule broken.Unconverted (not (takes_value (type_of x)) || converts y (type_of x))
+  rule broken.Unconverted (takes x y)
   rule broken.NotLvalue (is_assignable x)
   pure (assigned_type (type_of x))
 
@@ -240,7 +282,7 @@ unfoldable pub updated : BinaryOperator → TypedExpr → TypedExpr → Walk Ty
 updated o x y = do
   w ← world
   t ← found broken.Operands (operated w.structs o x y)
-  rule broken.Unconverted (not (takes_value (type_of x)) || type_converts t (type_of x))
+  rule broken.Unconverted (takes_type x t)
   rule broken.NotLvalue (is_assignable x)
   pure (type_of x)
 
@@ -278,7 +320,7 @@ size_of_type t = do
 
 -- to `void` from anything, else from a scalar to a scalar
 unfoldable pub may_be_cast : TypedExpr → Ty → Bool
-may_be_cast x to = is_void to || (is_scalar to && is_scalar (value_type x))
+may_be_cast x to = is_void to || (is_scalar to && is_scalar_value x)
 
 unfoldable pub cast : TypedTypeWord → TypedExpr → Walk TypedExpr
 cast t x = do

@@ -2,14 +2,15 @@
 
 ghost use Rattle.std.specs.Prelude.{◌≡◌, IfOk};
 ghost use Rattle.c_rules.specs.Rules as spec;
+ghost use Rattle.c_tree.specs.Operators.{binary_operator};
 ghost use Rattle.c_tree.specs.declared.operator.BinaryOperator.TheVariants as op;
 ghost use Rattle.c_typed.specs.declared.expression.TypedForm.TheVariants as form;
 ghost use Rattle.c_scope.specs.Walks.{Walks};
 
-use crate::conversions::{converts, takes_value, type_converts};
+use crate::conversions::{boxed_pair, converts, takes_value, type_converts};
 use crate::lvalues::is_assignable;
 use crate::operators::operated;
-use c_scope::{Failure, Rule, World, found, test};
+use c_scope::{Failure, Rule, World, found};
 use c_tree::{AssignOperator, BinaryOperator};
 use c_typed::{Constant, TypedExpr, TypedForm};
 use c_types::{Ty, copy_type, is_struct};
@@ -31,15 +32,46 @@ pub fn assignment(
 ) -> Result<TypedExpr, Failure>
     ensures { Walks (spec.assignment x operator y world.now) result world.now }
 {
-    let ty = match operator.binary_operator() {
-        None => plain(alloc, world, &x, &y)?,
-        Some(binary) => updated(alloc, world, binary, &x, &y)?,
-    };
+    let ty = assigned(alloc, world, &x, operator, &y)?;
+    let (x, y) = boxed_pair(alloc, x, y)?;
     Ok(TypedExpr {
-        form: TypedForm::Assign(Boxed::new(alloc, x)?, operator, Boxed::new(alloc, y)?),
+        form: TypedForm::Assign(x, operator, y),
         ty,
         constant: Constant::Other,
     })
+}
+
+/// What an assignment asks, and the type that it gives.
+fn assigned(
+    alloc: Global,
+    world: &World,
+    x: &TypedExpr,
+    operator: AssignOperator,
+    y: &TypedExpr,
+) -> Result<Ty, Failure>
+    ensures { Walks (spec.assigned_by x.now y.now (binary_operator operator) world.now)
+        result world.now }
+{
+    match operator.binary_operator() {
+        None => Ok(plain(alloc, world, x, y)?),
+        Some(binary) => Ok(updated(alloc, world, binary, x, y)?),
+    }
+}
+
+/// Whether the target takes no value at all, or the value converts to it.
+#[tactic(auto, unfolding(crate::specs::Rules::takes, crate::specs::Operators::type_of))]
+fn takes(alloc: Global, x: &TypedExpr, y: &TypedExpr) -> Result<bool, AllocError>
+    ensures { IfOk result (λ takes. takes ≡ spec.takes x.now y.now) }
+{
+    Ok(!takes_value(&x.ty) || converts(alloc, y, &x.ty)?)
+}
+
+/// The same of a value of this type.
+#[tactic(auto, unfolding(crate::specs::Rules::takes_type, crate::specs::Operators::type_of))]
+fn takes_type(x: &TypedExpr, ty: &Ty) -> bool
+    ensures { result ≡ spec.takes_type x.now ty.now }
+{
+    !takes_value(&x.ty) || type_converts(ty, &x.ty)
 }
 
 /// What `=` asks, and the type that it gives.
@@ -47,11 +79,12 @@ pub fn assignment(
 fn plain(alloc: Global, _world: &World, x: &TypedExpr, y: &TypedExpr) -> Result<Ty, Failure>
     ensures { Walks (spec.plain x.now y.now _world.now) result _world.now }
 {
-    test(
-        Rule::Unconverted,
-        !takes_value(&x.ty) || converts(alloc, y, &x.ty)?,
-    )?;
-    test(Rule::NotLvalue, is_assignable(x))?;
+    if !takes(alloc, x, y)? {
+        return Err(Failure::Broken(Rule::Unconverted));
+    }
+    if !is_assignable(x) {
+        return Err(Failure::Broken(Rule::NotLvalue));
+    }
     Ok(assigned_type(&x.ty)?)
 }
 
@@ -81,11 +114,12 @@ fn updated(
         Rule::Operands,
         operated(alloc, &world.structs, operator, x, y)?,
     )?;
-    test(
-        Rule::Unconverted,
-        !takes_value(&x.ty) || type_converts(&ty, &x.ty),
-    )?;
-    test(Rule::NotLvalue, is_assignable(x))?;
+    if !takes_type(x, &ty) {
+        return Err(Failure::Broken(Rule::Unconverted));
+    }
+    if !is_assignable(x) {
+        return Err(Failure::Broken(Rule::NotLvalue));
+    }
     Ok(copy_type(&x.ty)?)
 }
 
@@ -117,8 +151,9 @@ pub fn pre_increment(alloc: Global, world: &World, x: TypedExpr) -> Result<Typed
     ensures { Walks (spec.stepped op.Add form.PreIncrement x world.now) result world.now }
 {
     let ty = stepped(alloc, world, BinaryOperator::Add, &x)?;
+    let x = Boxed::new(alloc, x)?;
     Ok(TypedExpr {
-        form: TypedForm::PreIncrement(Boxed::new(alloc, x)?),
+        form: TypedForm::PreIncrement(x),
         ty,
         constant: Constant::Other,
     })
@@ -134,8 +169,9 @@ pub fn pre_decrement(alloc: Global, world: &World, x: TypedExpr) -> Result<Typed
     ensures { Walks (spec.stepped op.Subtract form.PreDecrement x world.now) result world.now }
 {
     let ty = stepped(alloc, world, BinaryOperator::Subtract, &x)?;
+    let x = Boxed::new(alloc, x)?;
     Ok(TypedExpr {
-        form: TypedForm::PreDecrement(Boxed::new(alloc, x)?),
+        form: TypedForm::PreDecrement(x),
         ty,
         constant: Constant::Other,
     })
@@ -151,8 +187,9 @@ pub fn post_increment(alloc: Global, world: &World, x: TypedExpr) -> Result<Type
     ensures { Walks (spec.stepped op.Add form.PostIncrement x world.now) result world.now }
 {
     let ty = stepped(alloc, world, BinaryOperator::Add, &x)?;
+    let x = Boxed::new(alloc, x)?;
     Ok(TypedExpr {
-        form: TypedForm::PostIncrement(Boxed::new(alloc, x)?),
+        form: TypedForm::PostIncrement(x),
         ty,
         constant: Constant::Other,
     })
@@ -168,8 +205,9 @@ pub fn post_decrement(alloc: Global, world: &World, x: TypedExpr) -> Result<Type
     ensures { Walks (spec.stepped op.Subtract form.PostDecrement x world.now) result world.now }
 {
     let ty = stepped(alloc, world, BinaryOperator::Subtract, &x)?;
+    let x = Boxed::new(alloc, x)?;
     Ok(TypedExpr {
-        form: TypedForm::PostDecrement(Boxed::new(alloc, x)?),
+        form: TypedForm::PostDecrement(x),
         ty,
         constant: Constant::Other,
     })

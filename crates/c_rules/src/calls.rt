@@ -6,14 +6,14 @@ ghost use Rattle.c_rules.specs.Rules as spec;
 ghost use Rattle.c_scope.specs.Walks.{Walks};
 
 use crate::conversions::converts;
-use c_scope::{Failure, Rule, World, found, test};
+use c_scope::{Failure, Rule, World, found};
 use c_typed::{Constant, TypedExpr, TypedForm};
 use c_types::{FnTy, Ty, copy_type, function_of};
 use sqlite_items::{Boxed, Items};
 use std::alloc::{AllocError, Global};
 
 /// The type of the function that is called: the callee is one, or a pointer to one.
-#[tactic(auto, unfolding(crate::specs::Rules::called_type))]
+#[tactic(auto, unfolding(crate::specs::Rules::called_type, crate::specs::Operators::value_type, crate::specs::Operators::type_of, c_types::specs::Kinds::decay, c_types::specs::Kinds::target_of, c_types::specs::Kinds::function_of))]
 fn called_type(callee: &TypedExpr) -> Option<&FnTy>
     ensures { option_copied result ≡ spec.called_type callee.now }
 {
@@ -26,13 +26,19 @@ fn called_type(callee: &TypedExpr) -> Option<&FnTy>
 }
 
 /// Whether each argument that has a parameter converts to it.
+#[tactic(auto, using(crate::proofs::Arguments::arguments))]
 fn all_convert(alloc: Global, arguments: &[TypedExpr], params: &[Ty]) -> Result<bool, AllocError>
     ensures { IfOk result (λ all. all ≡ spec.all_convert arguments.now params.now) }
 {
-    for (argument, param) in arguments.iter().zip(params) {
+    let mut left = params;
+    for argument in arguments {
+        let Some((param, behind)) = left.split_first() else {
+            return Ok(true);
+        };
         if !converts(alloc, argument, param)? {
             return Ok(false);
         }
+        left = behind;
     }
     Ok(true)
 }
@@ -51,16 +57,18 @@ pub fn call(
 ) -> Result<TypedExpr, Failure>
     ensures { Walks (spec.call callee arguments _world.now) result _world.now }
 {
-    let ty = checked_call(alloc, _world, &callee, arguments.as_slice())?;
+    let ty = called(alloc, _world, &callee, arguments.as_slice())?;
+    let callee = Boxed::new(alloc, callee)?;
     Ok(TypedExpr {
-        form: TypedForm::Call(Boxed::new(alloc, callee)?, arguments),
+        form: TypedForm::Call(callee, arguments),
         ty,
         constant: Constant::Other,
     })
 }
 
 /// The rules of a call, and the type of its result.
-fn checked_call(
+#[tactic(auto, unfolding(crate::specs::Rules::called))]
+fn called(
     alloc: Global,
     _world: &World,
     callee: &TypedExpr,
@@ -70,7 +78,11 @@ fn checked_call(
 {
     let function = found(Rule::Call, called_type(callee))?;
     let params = function.params.as_slice();
-    test(Rule::Unconverted, all_convert(alloc, arguments, params)?)?;
-    test(Rule::Call, arguments.len() == params.len())?;
+    if !all_convert(alloc, arguments, params)? {
+        return Err(Failure::Broken(Rule::Unconverted));
+    }
+    if arguments.len() != params.len() {
+        return Err(Failure::Broken(Rule::Call));
+    }
     Ok(copy_type(&function.result)?)
 }

@@ -4,15 +4,15 @@ ghost use Rattle.std.specs.Prelude.{◌≡◌, IfOk};
 ghost use Rattle.c_rules.specs.Operators as spec;
 ghost use Rattle.c_rules.specs.Rules.{pointed};
 ghost use Rattle.c_scope.specs.Walks.{Walks};
-ghost use Rattle.c_scope.specs.declared.world.World.{World};
 ghost use Rattle.c_types.specs.Units as units;
 
-use c_scope::{Failure, Rule};
+use c_scope::{Failure, Rule, World};
 use c_typed::{Constant, TypedExpr};
 use c_types::{
     StructTable, Ty, copy_type, decay, is_integer, is_object_pointer, is_pointer, is_scalar,
     is_struct, is_void_pointer, same, target_of,
 };
+use sqlite_items::Boxed;
 use std::alloc::{AllocError, Global};
 
 /// The type of an expression's value: an array or a function decays.
@@ -25,6 +25,25 @@ pub fn value_type(alloc: Global, e: &TypedExpr) -> Result<Ty, AllocError>
     ensures { IfOk result (λ ty. ty ≡ spec.value_type e.now) }
 {
     decay(alloc, &e.ty)
+}
+
+/// Whether an expression's value is an integer or a pointer.
+#[tactic(auto, unfolding(crate::specs::Operators::is_scalar_value, crate::specs::Operators::value_type, crate::specs::Operators::type_of, c_types::specs::Kinds::is_scalar, c_types::specs::Kinds::decay))]
+pub fn is_scalar_value(e: &TypedExpr) -> bool
+    ensures { result ≡ spec.is_scalar_value e.now }
+{
+    matches!(
+        &e.ty,
+        Ty::Int | Ty::Char | Ty::Pointer(_) | Ty::Array(_, _) | Ty::Function(_)
+    )
+}
+
+/// Whether an expression's value is an integer.
+#[tactic(auto, unfolding(crate::specs::Operators::is_integer_value, crate::specs::Operators::value_type, crate::specs::Operators::type_of, c_types::specs::Kinds::is_integer, c_types::specs::Kinds::decay))]
+pub(crate) fn is_integer_value(e: &TypedExpr) -> bool
+    ensures { result ≡ spec.is_integer_value e.now }
+{
+    matches!(&e.ty, Ty::Int | Ty::Char)
 }
 
 /// Whether it is a pointer that can be counted up and indexed: its target has units.
@@ -90,11 +109,25 @@ pub fn takes_value(ty: &Ty) -> bool
 /// # Errors
 ///
 /// `Broken`, of `Pointer`, exactly where it is no pointer. `Memory`, where no memory is left.
-pub(crate) fn pointed(alloc: Global, x: &TypedExpr) -> Result<Ty, Failure>
-    ensures { (w : World) → Walks (pointed x.now w) result w }
+#[tactic(auto, unfolding(crate::specs::Rules::pointed))]
+pub(crate) fn pointed(alloc: Global, _world: &World, x: &TypedExpr) -> Result<Ty, Failure>
+    ensures { Walks (pointed x.now _world.now) result _world.now }
 {
     match target_of(&value_type(alloc, x)?) {
         Some(target) => Ok(copy_type(target)?),
         None => Err(Failure::Broken(Rule::Pointer)),
     }
+}
+
+/// Two operands on the heap.
+pub(crate) fn boxed_pair(
+    alloc: Global,
+    x: TypedExpr,
+    y: TypedExpr,
+) -> Result<(Boxed<TypedExpr>, Boxed<TypedExpr>), AllocError>
+    ensures { IfOk result (λ both. both ≡ (x, y)) }
+{
+    let x = Boxed::new(alloc, x)?;
+    let y = Boxed::new(alloc, y)?;
+    Ok((x, y))
 }

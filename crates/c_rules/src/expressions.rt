@@ -1,19 +1,20 @@
 //! Numbers, strings, binary operators, `?:` and indices.
 
-ghost use Rattle.std.specs.Prelude.{◌≡◌};
+ghost use Rattle.std.specs.Prelude.{◌≡◌, IfOk};
 ghost use Rattle.c_rules.specs.Rules as spec;
 ghost use Rattle.c_scope.specs.Walks.{Walks};
+ghost use Rattle.c_typed.specs.declared.expression.TypedForm.TheVariants as form;
 
 use crate::constants::{of_binary, of_conditional};
-use crate::conversions::{has_units, pointed, value_type};
+use crate::conversions::{boxed_pair, has_units, is_integer_value, is_scalar_value, pointed};
 use crate::operators::{chosen, operated};
-use c_scope::{Failure, Rule, World, count, found, test};
+use c_scope::{Failure, Rule, World, count, found};
 use c_tree::BinaryOperator;
 use c_typed::{Constant, TypedExpr, TypedForm};
-use c_types::{Ty, is_integer, is_scalar};
+use c_types::Ty;
 use shared::Shared;
 use sqlite_items::{Boxed, Items};
-use std::alloc::Global;
+use std::alloc::{AllocError, Global};
 
 /// A number.
 #[tactic(auto, unfolding(crate::specs::Rules::number, crate::specs::Operators::typed))]
@@ -77,8 +78,9 @@ pub fn binary(
         operated(alloc, &world.structs, operator, &x, &y)?,
     )?;
     let constant = of_binary(operator, x.constant, y.constant);
+    let (x, y) = boxed_pair(alloc, x, y)?;
     Ok(TypedExpr {
-        form: TypedForm::Binary(Boxed::new(alloc, x)?, operator, Boxed::new(alloc, y)?),
+        form: TypedForm::Binary(x, operator, y),
         ty,
         constant,
     })
@@ -99,17 +101,46 @@ pub fn conditional(
 ) -> Result<TypedExpr, Failure>
     ensures { Walks (spec.conditional condition then_value else_value _world.now) result _world.now }
 {
-    let ty = found(Rule::Operands, chosen(alloc, &then_value, &else_value)?)?;
-    test(Rule::NotScalar, is_scalar(&value_type(alloc, &condition)?))?;
+    let ty = conditional_type(alloc, _world, &condition, &then_value, &else_value)?;
     let constant = of_conditional(condition.constant, then_value.constant, else_value.constant);
-    Ok(TypedExpr {
-        form: TypedForm::Conditional {
-            condition: Boxed::new(alloc, condition)?,
-            then_value: Boxed::new(alloc, then_value)?,
-            else_value: Boxed::new(alloc, else_value)?,
-        },
-        ty,
-        constant,
+    let form = conditional_form(alloc, condition, then_value, else_value)?;
+    Ok(TypedExpr { form, ty, constant })
+}
+
+/// What `?:` asks, and the type that it gives.
+#[tactic(auto, unfolding(crate::specs::Rules::conditional_type))]
+fn conditional_type(
+    alloc: Global,
+    _world: &World,
+    condition: &TypedExpr,
+    then_value: &TypedExpr,
+    else_value: &TypedExpr,
+) -> Result<Ty, Failure>
+    ensures { Walks (spec.conditional_type condition.now then_value.now else_value.now _world.now)
+        result _world.now }
+{
+    let ty = found(Rule::Operands, chosen(alloc, then_value, else_value)?)?;
+    if !is_scalar_value(condition) {
+        return Err(Failure::Broken(Rule::NotScalar));
+    }
+    Ok(ty)
+}
+
+/// `?:` of its parts.
+fn conditional_form(
+    alloc: Global,
+    condition: TypedExpr,
+    then_value: TypedExpr,
+    else_value: TypedExpr,
+) -> Result<TypedForm, AllocError>
+    ensures { IfOk result (λ made. made ≡ form.Conditional condition then_value else_value) }
+{
+    let condition = Boxed::new(alloc, condition)?;
+    let (then_value, else_value) = boxed_pair(alloc, then_value, else_value)?;
+    Ok(TypedForm::Conditional {
+        condition,
+        then_value,
+        else_value,
     })
 }
 
@@ -122,12 +153,26 @@ pub fn conditional(
 pub fn index(alloc: Global, world: &World, x: TypedExpr, i: TypedExpr) -> Result<TypedExpr, Failure>
     ensures { Walks (spec.index x i world.now) result world.now }
 {
-    test(Rule::Operands, is_integer(&value_type(alloc, &i)?))?;
-    let ty = pointed(alloc, &x)?;
-    test(Rule::Pointer, has_units(&world.structs, &ty))?;
+    let ty = indexed(alloc, world, &x, &i)?;
+    let (x, i) = boxed_pair(alloc, x, i)?;
     Ok(TypedExpr {
-        form: TypedForm::Index(Boxed::new(alloc, x)?, Boxed::new(alloc, i)?),
+        form: TypedForm::Index(x, i),
         ty,
         constant: Constant::Other,
     })
+}
+
+/// What an index asks, and the type that it gives.
+#[tactic(auto, unfolding(crate::specs::Rules::indexed))]
+fn indexed(alloc: Global, world: &World, x: &TypedExpr, i: &TypedExpr) -> Result<Ty, Failure>
+    ensures { Walks (spec.indexed x.now i.now world.now) result world.now }
+{
+    if !is_integer_value(i) {
+        return Err(Failure::Broken(Rule::Operands));
+    }
+    let ty = pointed(alloc, world, x)?;
+    if !has_units(&world.structs, &ty) {
+        return Err(Failure::Broken(Rule::Pointer));
+    }
+    Ok(ty)
 }

@@ -16,7 +16,7 @@ mod unary_operators;
 
 pub use assignments::{assignment, post_decrement, post_increment, pre_decrement, pre_increment};
 pub use calls::call;
-pub use conversions::{converts, is_null, takes_value, type_converts, value_type};
+pub use conversions::{converts, is_null, is_scalar_value, takes_value, type_converts, value_type};
 pub use expressions::{binary, conditional, index, number, text};
 pub use lvalues::{is_assignable, is_lvalue};
 pub use members::{arrow, member};

@@ -7,7 +7,7 @@ ghost use Rattle.c_scope.specs.Walks.{Walks};
 
 use crate::conversions::{has_units, value_type};
 use crate::lvalues::is_lvalue;
-use c_scope::{Failure, Rule, World, found, test};
+use c_scope::{Failure, Rule, World, found};
 use c_typed::{Constant, TypedExpr, TypedForm};
 use c_types::{Name, StructTable, Ty, copy_name, copy_type, struct_of, target_of};
 use sqlite_items::Boxed;
@@ -46,17 +46,41 @@ fn member_at(structs: &StructTable, s: u32, place: u32) -> Option<&Ty>
 /// # Errors
 ///
 /// `Broken`, at the first rule that is broken. `Memory`, where no memory is left.
-#[tactic(auto, unfolding(crate::specs::Rules::member, crate::specs::Operators::typed, crate::specs::Operators::type_of))]
+#[tactic(auto, unfolding(crate::specs::Rules::member, crate::specs::Operators::typed))]
 pub fn member(alloc: Global, world: &World, x: TypedExpr, name: &Name) -> Result<TypedExpr, Failure>
     ensures { Walks (spec.member x name.now world.now) result world.now }
 {
-    test(Rule::Member, is_lvalue(&x))?;
-    let (number, ty) = found(Rule::Member, member_of(&world.structs, name, &x.ty)?)?;
+    let (number, ty) = member_found(world, &x, name)?;
+    let (x, name) = boxed_with(alloc, x, name)?;
     Ok(TypedExpr {
-        form: TypedForm::Member(Boxed::new(alloc, x)?, copy_name(alloc, name)?, number),
+        form: TypedForm::Member(x, name, number),
         ty,
         constant: Constant::Other,
     })
+}
+
+/// What `.` asks, and the member's number and type.
+#[tactic(auto, unfolding(crate::specs::Rules::member_found, crate::specs::Operators::type_of))]
+fn member_found(world: &World, x: &TypedExpr, name: &Name) -> Result<(u32, Ty), Failure>
+    ensures { Walks (spec.member_found x.now name.now world.now) result world.now }
+{
+    if !is_lvalue(x) {
+        return Err(Failure::Broken(Rule::Member));
+    }
+    Ok(found(Rule::Member, member_of(&world.structs, name, &x.ty)?)?)
+}
+
+/// An operand on the heap, and a copy of a name.
+fn boxed_with(
+    alloc: Global,
+    x: TypedExpr,
+    name: &Name,
+) -> Result<(Boxed<TypedExpr>, Name), AllocError>
+    ensures { IfOk result (λ both. both ≡ (x, name.now)) }
+{
+    let x = Boxed::new(alloc, x)?;
+    let name = copy_name(alloc, name)?;
+    Ok((x, name))
 }
 
 /// `->` and a name.
@@ -72,14 +96,16 @@ pub fn arrow(alloc: Global, world: &World, x: TypedExpr, name: &Name) -> Result<
         Rule::Member,
         member_behind(alloc, &world.structs, &x, name)?,
     )?;
+    let (x, name) = boxed_with(alloc, x, name)?;
     Ok(TypedExpr {
-        form: TypedForm::Arrow(Boxed::new(alloc, x)?, copy_name(alloc, name)?, number),
+        form: TypedForm::Arrow(x, name, number),
         ty,
         constant: Constant::Other,
     })
 }
 
 /// A member of the struct that a pointer points to.
+#[tactic(auto, unfolding(crate::specs::Rules::member_behind))]
 fn member_behind(
     alloc: Global,
     structs: &StructTable,

@@ -3,6 +3,7 @@
 ghost use Rattle.std.specs.Prelude.{◌≡◌, IfOk};
 ghost use Rattle.std.specs.Option.{option_copied};
 ghost use Rattle.c_rules.specs.Rules as spec;
+ghost use Rattle.c_scope.specs.Scopes.{meaning_of};
 ghost use Rattle.c_scope.specs.Walks.{Walks};
 
 use crate::place::Place;
@@ -29,12 +30,34 @@ pub fn identifier(
     if let Some(built_in) = built_in_named(name.bytes()) {
         return built_in_at(alloc, world, name, place, built_in);
     }
+    meant(alloc, world, name)
+}
+
+/// A name that is no built-in's.
+fn meant(alloc: Global, world: &mut World, name: &Name) -> Result<TypedExpr, Failure>
+    ensures { Walks (spec.meant name.now world.old) result world.new }
+{
+    if means_function(world, name) {
+        return Ok(mentioned(alloc, world, name)?);
+    }
+    variable(alloc, world, name)
+}
+
+/// Whether it means a function.
+#[tactic(auto, unfolding(crate::specs::Rules::means_function))]
+fn means_function(world: &World, name: &Name) -> bool
+    ensures { result ≡ spec.means_function world.now name.now }
+{
+    matches!(world.scopes.meaning(name.bytes()), Some(Meaning::Function))
+}
+
+/// A variable or a parameter.
+fn variable(alloc: Global, world: &World, name: &Name) -> Result<TypedExpr, Failure>
+    ensures { Walks (spec.variable name.now (meaning_of world.now.scopes name.now) world.now)
+        result world.now }
+{
     match world.scopes.meaning(name.bytes()) {
-        Some(Meaning::Variable(entity, ty)) => {
-            let ty = copy_type(ty)?;
-            Ok(named(alloc, name, *entity, ty)?)
-        }
-        Some(Meaning::Function) => mentioned(alloc, world, name),
+        Some(Meaning::Variable(entity, ty)) => { Ok(named(alloc, name, *entity, copy_type(ty)?)?) }
         _ => Err(Failure::Broken(Rule::Undeclared)),
     }
 }

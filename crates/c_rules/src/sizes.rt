@@ -3,9 +3,10 @@
 ghost use Rattle.std.specs.Prelude.{◌≡◌, IfOk};
 ghost use Rattle.c_rules.specs.Rules as spec;
 ghost use Rattle.c_scope.specs.Walks.{Walks};
+ghost use Rattle.c_typed.specs.declared.expression.TypedForm.TheVariants as form;
 
 use crate::constants::of_cast;
-use crate::conversions::{has_units, value_type};
+use crate::conversions::{has_units, is_scalar_value};
 use c_scope::{Failure, Rule, World, found, test};
 use c_typed::{Constant, TypedExpr, TypedForm, TypedTypeWord};
 use c_types::{Ty, copy_type, is_scalar, is_void};
@@ -49,10 +50,19 @@ pub fn size_of_type(alloc: Global, world: &World, word: TypedTypeWord) -> Result
 /// Whether an expression may be cast to the type: to `void` from anything, else from a scalar to a
 /// scalar.
 #[tactic(auto, unfolding(crate::specs::Rules::may_be_cast))]
-fn may_be_cast(alloc: Global, x: &TypedExpr, to: &Ty) -> Result<bool, AllocError>
-    ensures { IfOk result (λ may. may ≡ spec.may_be_cast x.now to.now) }
+fn may_be_cast(x: &TypedExpr, to: &Ty) -> bool
+    ensures { result ≡ spec.may_be_cast x.now to.now }
 {
-    Ok(is_void(to) || (is_scalar(to) && is_scalar(&value_type(alloc, x)?)))
+    is_void(to) || (is_scalar(to) && is_scalar_value(x))
+}
+
+/// A cast of its parts.
+fn cast_form(alloc: Global, word: TypedTypeWord, x: TypedExpr) -> Result<TypedForm, AllocError>
+    ensures { IfOk result (λ made. made ≡ form.Cast word x) }
+{
+    let word = Boxed::new(alloc, word)?;
+    let x = Boxed::new(alloc, x)?;
+    Ok(TypedForm::Cast(word, x))
 }
 
 /// A cast.
@@ -69,12 +79,11 @@ pub fn cast(
 ) -> Result<TypedExpr, Failure>
     ensures { Walks (spec.cast word x _world.now) result _world.now }
 {
-    test(Rule::Cast, may_be_cast(alloc, &x, &word.ty)?)?;
+    if !may_be_cast(&x, &word.ty) {
+        return Err(Failure::Broken(Rule::Cast));
+    }
     let ty = copy_type(&word.ty)?;
     let constant = of_cast(&ty, x.constant);
-    Ok(TypedExpr {
-        form: TypedForm::Cast(Boxed::new(alloc, word)?, Boxed::new(alloc, x)?),
-        ty,
-        constant,
-    })
+    let form = cast_form(alloc, word, x)?;
+    Ok(TypedExpr { form, ty, constant })
 }

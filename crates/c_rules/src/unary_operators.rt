@@ -1,19 +1,19 @@
 //! Unary operators.
 
-ghost use Rattle.std.specs.Prelude.{◌≡◌};
+ghost use Rattle.std.specs.Prelude.{◌≡◌, true, IfOk, OnOk};
 ghost use Rattle.c_rules.specs.Rules as spec;
 ghost use Rattle.c_scope.specs.Walks.{Walks};
 
 use crate::constants::of_unary;
-use crate::conversions::{has_units, pointed, value_type};
+use crate::conversions::{has_units, is_integer_value, is_scalar_value, pointed};
 use crate::lvalues::is_lvalue;
 use c_scope::{Failure, Rule, World, test};
 use c_tree::UnaryOperator;
 use c_typed::{Constant, Entity, Local, TypedExpr, TypedForm};
-use c_types::{Ty, copy_name, copy_type, is_function, is_integer, is_scalar};
+use c_types::{Ty, copy_name, copy_type, is_function};
 use shared::Shared;
-use sqlite_items::Boxed;
-use std::alloc::Global;
+use sqlite_items::{Boxed, Items};
+use std::alloc::{AllocError, Global};
 
 /// A unary operator.
 ///
@@ -44,7 +44,7 @@ pub fn unary(
 fn address(alloc: Global, world: &mut World, x: TypedExpr) -> Result<TypedExpr, Failure>
     ensures { Walks (spec.address x world.old) result world.new }
 {
-    test(Rule::NotLvalue, is_function(&x.ty) || is_lvalue(&x))?;
+    test(Rule::NotLvalue, has_address(&x))?;
     mark_addressed(alloc, world, &x)?;
     let ty = Ty::Pointer(Shared::new(alloc, copy_type(&x.ty)?)?);
     Ok(TypedExpr {
@@ -54,28 +54,51 @@ fn address(alloc: Global, world: &mut World, x: TypedExpr) -> Result<TypedExpr, 
     })
 }
 
+/// Whether it is a function or an lvalue.
+#[tactic(auto, unfolding(crate::specs::Rules::has_address, crate::specs::Operators::type_of))]
+fn has_address(x: &TypedExpr) -> bool
+    ensures { result ≡ spec.has_address x.now }
+{
+    is_function(&x.ty) || is_lvalue(x)
+}
+
 /// A local that is itself the operand of `&` becomes a local whose address is taken.
-#[tactic(auto, unfolding(crate::specs::Operators::form_of))]
+#[tactic(auto, unfolding(crate::specs::Rules::mark_addressed, crate::specs::Operators::form_of))]
 fn mark_addressed(alloc: Global, world: &mut World, x: &TypedExpr) -> Result<(), Failure>
     ensures { Walks (spec.mark_addressed x.now world.old) result world.new }
 {
     let TypedForm::Identifier(_, Entity::Local(number)) = &x.form else {
         return Ok(());
     };
-    let place = *number as usize;
-    let Some(local) = world.locals.get(place) else {
+    mark_local(alloc, &mut world.locals, *number as usize)?;
+    Ok(())
+}
+
+/// The local of this number becomes one whose address is taken. It is copied at most once.
+#[tactic(auto, using(crate::proofs::AddressedLocals::addressed))]
+fn mark_local(alloc: Global, locals: &mut Items<Local>, number: usize) -> Result<(), AllocError>
+    ensures { OnOk result (locals.new ≡ spec.addressed_at number locals.old) }
+{
+    let Some(local) = locals.get(number) else {
         return Ok(());
     };
     if local.is_addressed {
         return Ok(());
     }
-    let addressed = Local {
+    let addressed = addressed(alloc, local)?;
+    locals.set(number, addressed);
+    Ok(())
+}
+
+/// The same local, with its address taken.
+fn addressed(alloc: Global, local: &Local) -> Result<Local, AllocError>
+    ensures { IfOk result (λ addressed. addressed ≡ record local.now { is_addressed = true }) }
+{
+    Ok(Local {
         name: copy_name(alloc, &local.name)?,
         ty: copy_type(&local.ty)?,
         is_addressed: true,
-    };
-    world.locals.set(place, addressed);
-    Ok(())
+    })
 }
 
 /// `*`
@@ -83,16 +106,25 @@ fn mark_addressed(alloc: Global, world: &mut World, x: &TypedExpr) -> Result<(),
 fn dereference(alloc: Global, world: &World, x: TypedExpr) -> Result<TypedExpr, Failure>
     ensures { Walks (spec.dereference x world.now) result world.now }
 {
-    let ty = pointed(alloc, &x)?;
-    test(
-        Rule::Pointer,
-        is_function(&ty) || has_units(&world.structs, &ty),
-    )?;
+    let ty = dereferenced(alloc, world, &x)?;
+    let x = Boxed::new(alloc, x)?;
     Ok(TypedExpr {
-        form: TypedForm::Unary(UnaryOperator::Dereference, Boxed::new(alloc, x)?),
+        form: TypedForm::Unary(UnaryOperator::Dereference, x),
         ty,
         constant: Constant::Other,
     })
+}
+
+/// What `*` asks, and the type that it gives.
+#[tactic(auto, unfolding(crate::specs::Rules::dereferenced))]
+fn dereferenced(alloc: Global, world: &World, x: &TypedExpr) -> Result<Ty, Failure>
+    ensures { Walks (spec.dereferenced x.now world.now) result world.now }
+{
+    let ty = pointed(alloc, world, x)?;
+    if !is_function(&ty) && !has_units(&world.structs, &ty) {
+        return Err(Failure::Broken(Rule::Pointer));
+    }
+    Ok(ty)
 }
 
 /// `-` and `~`
@@ -105,7 +137,7 @@ fn arithmetic(
 ) -> Result<TypedExpr, Failure>
     ensures { Walks (spec.arithmetic operator x _world.now) result _world.now }
 {
-    test(Rule::Operands, is_integer(&value_type(alloc, &x)?))?;
+    test(Rule::Operands, is_integer_value(&x))?;
     let constant = of_unary(operator, x.constant);
     Ok(TypedExpr {
         form: TypedForm::Unary(operator, Boxed::new(alloc, x)?),
@@ -119,7 +151,7 @@ fn arithmetic(
 fn negation(alloc: Global, _world: &World, x: TypedExpr) -> Result<TypedExpr, Failure>
     ensures { Walks (spec.negation x _world.now) result _world.now }
 {
-    test(Rule::NotScalar, is_scalar(&value_type(alloc, &x)?))?;
+    test(Rule::NotScalar, is_scalar_value(&x))?;
     let constant = of_unary(UnaryOperator::Not, x.constant);
     Ok(TypedExpr {
         form: TypedForm::Unary(UnaryOperator::Not, Boxed::new(alloc, x)?),

@@ -1,0 +1,2 @@
+mod AddressedLocals
+mod Arguments
