@@ -1,5 +1,5 @@
 -- A verdict is a form, or an item and a rule.
-use Rattle.std.proofs.Common.{◌≡◌, ℕ, ◌⊎◌, inl, inr, Ok, Err, refl}
+use Rattle.std.proofs.Common.{◌≡◌, ℕ, ◌⊎◌, inl, inr, Ok, Err, refl, ap}
 use Rattle.c_tree.specs.declared.statement.Unit.{Unit as Source}
 use Rattle.c_typed.specs.declared.unit.Typed.{Typed}
 use Rattle.c_scope.specs.declared.rule.Rule.{Rule}
@@ -16,9 +16,14 @@ never_both s t item r form breaks = cc
 one_form : (s : Source) (t u : Typed) → HasForm s t → HasForm s u → t ≡ u
 one_form s t u form other = cc
 
-same_parts : (item other : ℕ) (r q : Rule) (v : Verdict Typed) → v ≡ Err (item, r) → v ≡ Err (other, q)
+abbrev at : ℕ → Rule → ℕ × Rule
+at item r = (item, r)
+
+same_parts : (item other : ℕ) (r q : Rule) (v : Verdict Typed) → v ≡ Err (at item r) → v ≡ Err (at other q)
     → (item ≡ other) × (r ≡ q)
-same_parts item other r q v is also = (cc, cc)
+same_parts item other r q v is also =
+    let same : at item r ≡ at other q = cc in
+    (ap (λ p. p.0) same, ap (λ p. p.1) same)
 
 pub one_verdict : SourcesHaveOneVerdict
 one_verdict = record {

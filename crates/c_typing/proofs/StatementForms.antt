@@ -99,8 +99,18 @@ module _ (returns : Ty) where
   unfolding walked_statements
   for_loop-of l in_loop w = ap (λ f. f in_loop w) (tree.for_loop-of (statement_steps returns) l)
 
-pub ruleset statements = (stmt-Block, stmt-If-alone, stmt-If-else, stmt-While, stmt-Do, stmt-For, stmt-Break,
-    stmt-Continue, stmt-Return, stmt-Expr)
+pub ruleset statements = (
+  stmt-Block,
+  stmt-If-alone,
+  stmt-If-else,
+  stmt-While,
+  stmt-Do,
+  stmt-For,
+  stmt-Break,
+  stmt-Continue,
+  stmt-Return,
+  stmt-Expr,
+)
 
 pub ruleset block_items = (block_item-Decl, block_item-Stmt)
 

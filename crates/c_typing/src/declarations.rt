@@ -139,8 +139,12 @@ fn shaped_type(
         result world.now }
 {
     let layers = declarator.layers.as_slice();
-    let CheckedShape { shape, results_fit } =
-        checked_shape(alloc, &world.structs, copy_type(base)?, layers)?;
+    let CheckedShape { shape, results_fit } = checked_shape(
+        alloc,
+        &world.structs,
+        copy_type(base)?,
+        layers,
+    )?;
     let shape = completed(alloc, init, shape)?;
     let ty = declared_type(alloc, world, &declarator.name, shape, results_fit)?;
     Ok(ty)
@@ -228,8 +232,14 @@ fn init_declarator(
         result world.new }
 {
     let inside = declarator(alloc, world, &one.declarator)?;
-    let (ty, entity, init) =
-        declare_all(alloc, world, is_global, base, &inside, one.init.as_ref())?;
+    let (ty, entity, init) = declare_all(
+        alloc,
+        world,
+        is_global,
+        base,
+        &inside,
+        one.init.as_ref(),
+    )?;
     let declared = Declared {
         declarator: inside.tree,
         ty,
@@ -275,8 +285,13 @@ pub(crate) fn declaration(
     ensures { Walks (spec.typed_decl is_global decl.now world.old) result world.new }
 {
     let (spec, base) = spec(alloc, world, &decl.spec, is_global)?;
-    let declarators =
-        init_declarators(alloc, world, is_global, &base, decl.declarators.as_slice())?;
+    let declarators = init_declarators(
+        alloc,
+        world,
+        is_global,
+        &base,
+        decl.declarators.as_slice(),
+    )?;
     Ok(TypedDecl { spec, declarators })
 }
 
@@ -303,8 +318,12 @@ fn shaped_name(
     ensures { Walks (spec.shaped_name base.now declarator.now world.now) result world.now }
 {
     let layers = declarator.layers.as_slice();
-    let CheckedShape { shape, results_fit } =
-        checked_shape(alloc, &world.structs, copy_type(base)?, layers)?;
+    let CheckedShape { shape, results_fit } = checked_shape(
+        alloc,
+        &world.structs,
+        copy_type(base)?,
+        layers,
+    )?;
     let ty = named_type(world, &declarator.name, shape, results_fit)?;
     Ok(ty)
 }
@@ -319,11 +338,7 @@ fn declare_type(
     ensures { Walks (spec.declare_type base.now declarator.now world.old) result world.new }
 {
     let ty = shaped_name(alloc, world, base, declarator)?;
-    world.bind(
-        alloc,
-        &declarator.name,
-        Meaning::TypeName(copy_type(&ty)?),
-    )?;
+    world.bind(alloc, &declarator.name, Meaning::TypeName(copy_type(&ty)?))?;
     Ok(ty)
 }
 

@@ -72,8 +72,12 @@ fn shaped_function(
     ensures { Walks (spec.shaped_function base.now declarator.now world.now) result world.now }
 {
     let layers = declarator.layers.as_slice();
-    let CheckedShape { shape, results_fit } =
-        checked_shape(alloc, &world.structs, copy_type(base)?, layers)?;
+    let CheckedShape { shape, results_fit } = checked_shape(
+        alloc,
+        &world.structs,
+        copy_type(base)?,
+        layers,
+    )?;
     let fits = results_fit && is_definition(layers);
     let function = defined_type(alloc, world, &declarator.name, shape, fits)?;
     Ok(function)

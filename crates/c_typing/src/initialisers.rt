@@ -47,12 +47,7 @@ fn char_target(target: Option<&Ty>) -> Option<u32>
 }
 
 /// A string that gives a char array its units.
-fn given_text(
-    alloc: Global,
-    _world: &World,
-    bytes: &[u8],
-    units: u32,
-) -> Result<TypedInit, Failure>
+fn given_text(alloc: Global, _world: &World, bytes: &[u8], units: u32) -> Result<TypedInit, Failure>
     ensures { Walks (spec.given_text bytes.now units _world.now) result _world.now }
 {
     test(Rule::Form, bytes.len() < units as usize)?;
@@ -152,11 +147,7 @@ fn member_type(structs: &StructTable, number: u32, i: usize) -> Option<&Ty>
 }
 
 /// The type of a part of a target.
-fn part_type(
-    structs: &StructTable,
-    i: usize,
-    target: Option<&Ty>,
-) -> Result<Option<Ty>, AllocError>
+fn part_type(structs: &StructTable, i: usize, target: Option<&Ty>) -> Result<Option<Ty>, AllocError>
     ensures { IfOk result
         (λ ty. ty ≡ option_and_then (spec.part_of structs.now i) (option_copied target.entry)) }
 {

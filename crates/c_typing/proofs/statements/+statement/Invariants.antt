@@ -54,4 +54,4 @@ abbrev pub invariant-block_items-loop-item : goal.invariant-block_items-loop-ite
 invariant-block_items-loop-item l =
     let of = walked_statements l.returns
     in each_from l.found (map (λ i. i l.in_loop) (map of.block_item (drop l.item-index l.all))) l.world
-        ≡ block_items (map of.block_item l.all) l.in_loop l.initial.world
+    ≡ block_items (map of.block_item l.all) l.in_loop l.initial.world
