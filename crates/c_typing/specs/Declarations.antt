@@ -38,11 +38,12 @@ abbrev pub text_bound : Bool → Option (List ℕ) → Option ℕ
 text_bound true (Some bytes) = Some (length bytes + 1)
 text_bound _ _ = None
 
+-- braces give the number of their parts
 abbrev pub given_at : Ty → Init-F Init → Option ℕ
 given_at t (Init-F.Braces parts) = Some (length parts)
 given_at t (Init-F.Expr e) = text_bound (is_char t) (text_of e)
 
--- the bound that it gives an array of this element: braces their number of parts
+-- the bound that an initialiser gives an array of this element
 unfoldable pub given_bound : Ty → Init → Option ℕ
 given_bound t i = given_at t (out-Init i)
 
@@ -51,10 +52,12 @@ abbrev pub allowed : Option ℕ → Option ℕ
 allowed None = None
 allowed (Some n) = if nat_le n most_units then Some n else None
 
+-- an array of this element with this bound, if there is one
 abbrev pub bounded : Ty → Option ℕ → Shape
 bounded t None = shape.Broken false
 bounded t (Some n) = limited (ty.Array t n)
 
+-- an array of this element with the bound that its initialiser gives
 abbrev pub closed : Ty → Option Init → Shape
 closed t None = shape.Broken false
 closed t (Some i) = bounded t (allowed (given_bound t i))
@@ -82,21 +85,25 @@ declared_type x s fits = do
   type_rules (is_function_shape s) t fits
   pure t
 
+-- the type that a declarator gives its name
 abbrev pub shaped_type : Ty → LayeredDeclarator → Option Init → Walk Ty
 shaped_type base d i = do
   w ← world
   declared_type d.name (completed i (shaped w.structs base d.layers)) (results_fit w.structs base d.layers)
 
+-- a function, or a variable of another type
 abbrev pub declare_by : Bool → Name → Ty → Option FnTy → Walk Entity
 declare_by is_global x t (Some f) = declare_function x f
 declare_by is_global x t None = declare_variable is_global x t
 
+-- the type of a declared name, and what it stands for
 abbrev pub declare : Bool → Ty → LayeredDeclarator → Option Init → Walk (Ty × Entity)
 declare is_global base d i = do
   t ← shaped_type base d i
   e ← declare_by is_global d.name t (function_of t)
   pure (t, e)
 
+-- the initialiser of a variable of this type, if it has one
 abbrev pub optional_init : Bool → Ty → Option Init → Walk (Option TypedInit)
 optional_init is_global t o = maybe (option_map (λ i. typed_init is_global i (Some t)) o)
 
@@ -107,6 +114,7 @@ declare_all is_global base d o = do
   i ← optional_init is_global e.0 o
   pure (e.0, e.1, i)
 
+-- the typed form of a declarator with its initialiser
 unfoldable pub typed_init_declarator : Bool → Ty → InitDeclarator → Walk TypedInitDeclarator
 typed_init_declarator is_global base d = do
   x ← typed_declarator d.declarator
@@ -131,17 +139,20 @@ named_type x s fits = do
   rule broken.Form fits
   pure t
 
+-- the type that a declarator gives the name of a type
 abbrev pub shaped_name : Ty → LayeredDeclarator → Walk Ty
 shaped_name base d = do
   w ← world
   named_type d.name (shaped w.structs base d.layers) (results_fit w.structs base d.layers)
 
+-- the name is bound behind its declarator
 abbrev pub declare_type : Ty → LayeredDeclarator → Walk Ty
 declare_type base d = do
   t ← shaped_name base d
   bind d.name (means.TypeName t)
   pure t
 
+-- the typed form of a declarator of a type name
 unfoldable pub typed_type : Ty → Declarator → Walk Declared
 typed_type base d = do
   x ← typed_declarator d

@@ -38,6 +38,7 @@ defined_type x s fits = do
   rule broken.Form fits
   found broken.Form (function_of t)
 
+-- the type that a definition's declarator gives its name
 abbrev pub shaped_function : Ty → LayeredDeclarator → Walk FnTy
 shaped_function base d = do
   w ← world
@@ -51,6 +52,7 @@ define_function base d = do
   mark_defined d.name
   pure f
 
+-- the same, if there is such a list
 abbrev pub bind_own_by : Option (List Parameter) → Walk (Unit {0})
 bind_own_by None = pure tt
 bind_own_by (Some ps) = bind_parameters ps
@@ -78,6 +80,7 @@ function_parts base d b = do
   ls ← take_locals
   pure (f, ls, body)
 
+-- the typed form of a definition
 unfoldable pub typed_function : TypedSpec → Ty → Declarator → Block → Walk TypedFn
 typed_function s base d b = do
   x ← typed_declarator d

@@ -26,6 +26,7 @@ use Rattle.c_typing.specs.Leaves.{is_constant_leaf}
 
 -- ---- strings
 
+-- the bytes of a string
 abbrev pub text_at : Node Plain Expr-F → Option (List ℕ)
 text_at (Expr-F.Text bytes) = Some bytes
 text_at _ = None
@@ -56,12 +57,14 @@ abbrev pub leaf_rules : Bool → Option Ty → TypedExpr → Walk (Unit {0})
 leaf_rules is_global None x = pure tt
 leaf_rules is_global (Some t) x = value_rules is_global t x
 
+-- an expression that gives a value
 abbrev pub given_value : Bool → Option Ty → Expr → Walk TypedInit
 given_value is_global to e = do
   x ← typed_expr e Value
   leaf_rules is_global to x
   pure (init.Expr x)
 
+-- a string to a char array, else a value
 abbrev pub given_by : Bool → Option Ty → Expr → Option (List ℕ) → Option ℕ → Walk TypedInit
 given_by is_global to e (Some bytes) (Some n) = given_text bytes n
 given_by is_global to e _ _ = given_value is_global to e
@@ -76,15 +79,17 @@ given is_global to e = given_by is_global to e (text_of e) (option_and_then char
 abbrev pub member_type : List StructDef → ℕ → ℕ → Option Ty
 member_type defs s i = option_map (λ m. m.ty) (option_and_then (λ ms. slice_get ms i) (body_of defs s))
 
+-- an element that the array has, or a member of the struct
 abbrev pub part_at : List StructDef → ℕ → Outer → Option Ty
 part_at defs i (Ty-F.Array t n) = if nat_lt i n then Some t else None
 part_at defs i (Ty-F.Struct s) = member_type defs s i
 part_at defs i _ = None
 
--- the type of a part: an element of an array, or a member of a struct
+-- the type of a part
 unfoldable pub part_of : List StructDef → ℕ → Ty → Option Ty
 part_of defs i t = part_at defs i (out-Ty t)
 
+-- the walk of an initialiser, for a target
 abbrev pub OfInit : Type 0
 OfInit = Option Ty → Walk TypedInit
 
@@ -104,10 +109,12 @@ unfoldable pub has_parts : List StructDef → ℕ → Ty → Bool
 has_parts defs zero t = true
 has_parts defs (suc n) t = is_some (part_of defs n t)
 
+-- each of so many parts has a target, if the whole has one
 abbrev pub parts_rule : Option Ty → ℕ → Walk (Unit {0})
 parts_rule None n = pure tt
 parts_rule (Some t) n = world >>= (λ w. rule broken.Form (has_parts w.structs n t))
 
+-- parts in source order, then the rule of the whole
 abbrev pub braces : Option Ty → List OfInit → Walk TypedInit
 braces to parts = do
   xs ← each (parts_from 0 to parts)
@@ -116,6 +123,7 @@ braces to parts = do
 
 -- ---- whole initialisers
 
+-- an expression, or parts in braces
 abbrev pub init_step : Bool → Init-F OfInit → OfInit
 init_step is_global (Init-F.Expr e) to = given is_global to e
 init_step is_global (Init-F.Braces parts) to = braces to parts

@@ -20,6 +20,7 @@ pub record Leaf : Type 0 where
   pub ty : Ty
   pub constant : Constant
 
+-- it is an integer constant expression
 abbrev pub has_value : Constant → Bool
 has_value (constant.Value v) = true
 has_value _ = false
@@ -29,10 +30,12 @@ abbrev pub is_below : Constant → Option ℕ → Bool
 is_below (constant.Value v) (Some n) = int_le (pos 0) v && int_lt v (pos n)
 is_below _ _ = false
 
+-- the name stands for a global variable
 abbrev pub is_global_variable : Entity → Bool
 is_global_variable (entity.Global n) = true
 is_global_variable _ = false
 
+-- the name stands for a function of the source
 abbrev pub is_function_entity : Entity → Bool
 is_function_entity entity.Function = true
 is_function_entity _ = false
@@ -42,6 +45,7 @@ abbrev pub LeafForm : Type 0
 LeafForm = TypedForm-F (Unit {0}) (Ty → Constant → Leaf) (Unit {0}) (Unit {0}) (Unit {0}) (Unit {0}) (Unit {0})
     (Unit {0}) (Unit {0}) Leaf (Unit {0}) (Unit {0})
 
+-- a global variable, a member of a place, or an element of one at a constant index inside it
 abbrev pub place_form : LeafForm → Bool
 place_form (TypedForm-F.Identifier x e) = is_global_variable e
 place_form (TypedForm-F.Member a x n) = a.is_place
@@ -56,10 +60,12 @@ leaf_form t (TypedForm-F.Identifier x e) = is_function_entity e || (is_global_va
 leaf_form t (TypedForm-F.Unary unary.Address a) = a.is_function || a.is_place
 leaf_form t _ = false
 
+-- the name of a function
 abbrev pub function_form : LeafForm → Bool
 function_form (TypedForm-F.Identifier x e) = is_function_entity e
 function_form _ = false
 
+-- what is known of an expression, by its form, its type and its constant
 abbrev pub leaf_step : LeafForm → Ty → Constant → Leaf
 leaf_step f t c = record {
   is_leaf = has_value c || leaf_form t f;
@@ -69,6 +75,7 @@ leaf_step f t c = record {
   constant = c;
 }
 
+-- what is known of an expression
 unfoldable pub leaf : TypedExpr → Leaf
 leaf = fold-TypedExpr _ _ _ _ _ _ _ _ _ _ _ _ (λ _. tt) leaf_step (λ _. tt) (λ _. tt) (λ _. tt) (λ _. tt)
     (λ _. tt) (λ _. tt) (λ _. tt) (λ e. e.form e.ty e.constant) (λ _. tt) (λ _. tt)

@@ -23,18 +23,21 @@ use Rattle.c_typing.specs.Functions.{typed_function}
 
 -- ---- items
 
+-- names of types
 abbrev pub typedef_item : Spec → List Declarator → Walk TypedItem
 typedef_item s ds = do
   base ← typed_spec s true
   xs ← each (map (typed_type base.1) ds)
   pure (item.Typedef base.0 xs)
 
+-- a function's definition
 abbrev pub function_item : Spec → Declarator → Block → Walk TypedItem
 function_item s d b = do
   base ← typed_spec s true
   f ← typed_function base.0 base.1 d b
   pure (item.Function f)
 
+-- the typed form of an item
 unfoldable pub typed_item : Item → Walk TypedItem
 typed_item (raw_item.Decl d) = typed_decl true d >>= (λ x. pure (item.Decl x))
 typed_item (raw_item.Typedef s ds) = typedef_item s ds
@@ -46,6 +49,7 @@ typed_item (raw_item.Function s d b) = function_item s d b
 abbrev pub Verdict : Type 0 → Type 0
 Verdict A = Result A (ℕ × Rule)
 
+-- what is broken, at this item
 abbrev pub at_item : {A : Type 0} → ℕ → Outcome A → Verdict A
 at_item n (Ok a) = Ok a
 at_item n (Err r) = Err (n, r)
@@ -54,10 +58,12 @@ at_item n (Err r) = Err (n, r)
 abbrev pub numbered_item : ℕ → Item → World → Verdict (TypedItem × World)
 numbered_item n i w = at_item n (typed_item i (record w { item = n }))
 
+-- this item, then the others
 abbrev pub with_first : TypedItem → Verdict (List TypedItem × World) → Verdict (List TypedItem × World)
 with_first x (Ok r) = Ok (x ∷ r.0, r.1)
 with_first x (Err e) = Err e
 
+-- the first item, then the others, from what is known behind it
 abbrev pub items_behind : (World → Verdict (List TypedItem × World)) → Verdict (TypedItem × World)
     → Verdict (List TypedItem × World)
 items_behind rest (Ok r) = with_first r.0 (rest r.1)
@@ -76,9 +82,11 @@ finished_by n is w None =
     then Ok (record { items = is; structs = w.structs; strings = w.strings })
     else Err (n, broken.NoMain)
 
+-- the verdict behind the last of so many items
 abbrev pub finished : ℕ → List TypedItem → World → Verdict Typed
 finished n is w = finished_by n is w (undefined_use w.functions)
 
+-- the same, unless an item breaks a rule
 abbrev pub finished_behind : ℕ → Verdict (List TypedItem × World) → Verdict Typed
 finished_behind n (Ok r) = finished n r.0 r.1
 finished_behind n (Err e) = Err e
