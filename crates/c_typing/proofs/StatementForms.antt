@@ -1,5 +1,5 @@
 -- The walk of each form of a statement, a block and a `for`.
-use Rattle.std.proofs.Common.{◌≡◌, Bool, true, List, map, Option, Some, None, ap}
+use Rattle.std.proofs.Common.{◌≡◌, Bool, map, Option, Some, None, ap}
 use Rattle.c_types.specs.declared.ty.Ty.{Ty}
 use Rattle.c_tree.specs.declared.statement.Block.{Block, out-Block}
 use Rattle.c_tree.specs.declared.statement.BlockItem.TheOpen.{BlockItem-F}

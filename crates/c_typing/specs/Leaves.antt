@@ -1,5 +1,5 @@
 -- Which expressions may give a global variable its value.
-use Rattle.std.specs.Prelude.{ℕ, Bool, true, false, ◌&&◌, ◌||◌, Option, Some, None, pos, int_le, int_lt}
+use Rattle.std.specs.Prelude.{ℕ, Bool, true, false, ◌&&◌, ◌||◌, Option, Some, pos, int_le, int_lt}
 use Rattle.c_types.specs.declared.ty.Ty.{Ty}
 use Rattle.c_types.specs.Kinds.{bound_of, is_array}
 use Rattle.c_tree.specs.declared.operator.UnaryOperator.TheVariants as unary

@@ -2,7 +2,7 @@
 use Rattle.std.specs.Prelude.{Bool, true, false, not, List, map, Option, Some, None}
 use Rattle.std.specs.Option.{option_map}
 use Rattle.c_types.specs.declared.ty.Ty.{Ty}
-use Rattle.c_types.specs.Kinds.{is_scalar, is_void}
+use Rattle.c_types.specs.Kinds.{is_void}
 use Rattle.c_tree.specs.declared.statement.Block.{Block}
 use Rattle.c_tree.specs.declared.statement.BlockItem.TheOpen.{BlockItem-F, Stmt-F, Block-F, ForLoop-F}
 use Rattle.c_tree.specs.declared.statement.ForInit.{ForInit}
@@ -22,7 +22,7 @@ use Rattle.c_scope.specs.declared.rule.Rule.TheVariants as broken
 use Rattle.c_scope.specs.Scopes.{within}
 use Rattle.c_scope.specs.Walk.{Walk, ◌>>=◌, ◌>>◌, each, maybe, pure, rule}
 use Rattle.c_rules.specs.declared.place.Place.TheVariants.{Value}
-use Rattle.c_rules.specs.Operators.{converts, value_type}
+use Rattle.c_rules.specs.Operators.{converts, is_scalar_value}
 use Rattle.c_expr_typing.specs.Trees.{typed_expr}
 use Rattle.c_typing.specs.Declarations.{typed_decl}
 
@@ -40,7 +40,7 @@ optional o = maybe (option_map full o)
 unfoldable pub condition : FullExpr → Walk TypedFullExpr
 condition e = do
   x ← full e
-  rule broken.NotScalar (is_scalar (value_type x.expr))
+  rule broken.NotScalar (is_scalar_value x.expr)
   pure x
 
 -- the same, if there is one

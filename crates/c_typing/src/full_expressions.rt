@@ -1,21 +1,19 @@
 //! Expressions of statements, which are no parts of others.
 
-ghost use Rattle.std.specs.Prelude.{◌≡◌, IfOk};
+ghost use Rattle.std.specs.Prelude.{◌≡◌};
 ghost use Rattle.std.specs.Option.{option_copied};
-ghost use Rattle.c_types.specs.Kinds as kind;
-ghost use Rattle.c_rules.specs.Operators as types;
 ghost use Rattle.c_scope.specs.Walks.{Walks};
 ghost use Rattle.c_typing.specs.Statements as spec;
 
 use crate::declarations::declaration;
 use c_expr_typing::expression;
-use c_rules::{Place, converts, value_type};
+use c_rules::{Place, converts, is_scalar_value};
 use c_scope::{Failure, Rule, World, test};
 use c_tree::{ForInit, FullExpr};
-use c_typed::{TypedExpr, TypedForInit, TypedFullExpr, TypedStmt};
-use c_types::{Ty, is_scalar, is_void};
+use c_typed::{TypedForInit, TypedFullExpr, TypedStmt};
+use c_types::{Ty, is_void};
 use sqlite_items::Boxed;
-use std::alloc::{AllocError, Global};
+use std::alloc::Global;
 
 /// An expression.
 #[tactic(auto, unfolding(crate::specs::Statements::full))]
@@ -42,13 +40,6 @@ fn optional(
     }
 }
 
-/// Whether its value is a scalar.
-fn is_scalar_value(alloc: Global, e: &TypedExpr) -> Result<bool, AllocError>
-    ensures { IfOk result (λ is. is ≡ kind.is_scalar (types.value_type e.now)) }
-{
-    Ok(is_scalar(&value_type(alloc, e)?))
-}
-
 /// A condition, which is a scalar.
 ///
 /// # Errors
@@ -63,7 +54,7 @@ pub(crate) fn condition(
     ensures { Walks (spec.condition e.now world.old) result world.new }
 {
     let x = full(alloc, world, e)?;
-    test(Rule::NotScalar, is_scalar_value(alloc, x.expr.get())?)?;
+    test(Rule::NotScalar, is_scalar_value(x.expr.get()))?;
     Ok(x)
 }
 

@@ -1,5 +1,5 @@
 -- What is known of an expression that may give a global its value, from what is known of those in it.
-use Rattle.std.proofs.Common.{◌≡◌, ◌∙◌, Bool, ◌||◌, ap}
+use Rattle.std.proofs.Common.{◌≡◌, ◌∙◌, ◌||◌, ap}
 use Rattle.c_types.specs.declared.ty.Ty.{Ty}
 use Rattle.c_typed.specs.declared.entity.Constant.{Constant}
 use Rattle.c_typed.specs.declared.expression.TypedExpr.{TypedExpr, out-TypedExpr, fold_out-TypedExpr}
