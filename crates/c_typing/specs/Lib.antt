@@ -1,3 +1,9 @@
-pub mod Trees
+pub mod Leaves
 pub mod Initialisers
+pub mod Declarations
 pub mod Statements
+pub mod Functions
+pub mod Sources
+pub mod Checks
+pub mod Theorems
+pub mod inner

@@ -1,0 +1,4 @@
+mod InitForms
+mod StatementForms
+mod ItemLists
+mod OneVerdict

@@ -1,0 +1,2 @@
+pub mod LeafForms
+pub mod Refusals

@@ -1,0 +1,195 @@
+//! Operands, conversions, casts, calls, members, pointers, lvalues and conditions.
+
+use crate::source::{Verdict, verdict_of};
+use std::test::Fail;
+
+#[test]
+fn operands_fit_their_operator(rt: HostRuntime) -> Result<(), Fail> {
+    let rows: [(&[u8], u32, u8); 31] = [
+        (b"void t(void){int x;int *p;x*p;}", 0, 7),
+        (b"void t(void){char c;c+c;}", 0, 0),
+        (b"void t(void){int *p;int x;p+x;x+p;p-x;p-p;}", 0, 0),
+        (b"void t(void){int x;int *p;x-p;}", 0, 7),
+        (b"void t(void){int *p;p+p;}", 0, 7),
+        (b"void t(void){int *p;char *q;p-q;}", 0, 7),
+        (b"void t(void){void *p;p+1;}", 0, 7),
+        (b"void t(void){struct s *p;p+1;}", 0, 7),
+        (b"void t(void){t+1;}", 0, 7),
+        (b"void t(void){int *p;~p;}", 0, 7),
+        (b"void t(void){int *p;-p;}", 0, 7),
+        (b"void t(void){int *p;char *q;p<q;}", 0, 7),
+        (b"void t(void){int *p;p<p;}", 0, 0),
+        (b"void t(void){int *p;p<0;}", 0, 7),
+        (b"void t(void){int *p;void *q;p==q;q!=p;}", 0, 0),
+        (b"void t(void){int *p;p==0;0!=p;}", 0, 0),
+        (b"void t(void){int *p;p==1;}", 0, 7),
+        (b"void t(void){int *p;char *q;p==q;}", 0, 7),
+        (b"void t(void){void *q;t==q;}", 0, 0),
+        (b"void t(void){int *p;1?p:0;1?0:p;1?p:p;}", 0, 0),
+        (b"void t(void){int *p;1?p:1;}", 0, 7),
+        (b"void t(void){int *p;void *q;1?p:q;}", 0, 7),
+        (b"void t(void){1?t():t();}", 0, 7),
+        (b"void t(void){int *p;5[p];}", 0, 7),
+        (b"void t(void){int *p;p[p];}", 0, 7),
+        (b"void t(void){int *p;p%1;}", 0, 7),
+        (b"void t(void){int *p;p<<1;}", 0, 7),
+        (b"void t(void){struct s{int a;};}", 0, 4),
+        (b"void t(void){int i;int *p;i+=p;}", 0, 8),
+        (b"void t(void){int *p;p*=2;}", 0, 7),
+        (b"void t(void){t()+1;}", 0, 7),
+    ];
+    for (source, item, rule) in rows {
+        assert_eq!(rt; verdict_of(rt.alloc(), source)?, Verdict::of(item, rule), "of {source:?}");
+    }
+    Ok(())
+}
+
+#[test]
+fn values_convert_to_their_target(rt: HostRuntime) -> Result<(), Fail> {
+    let rows: [(&[u8], u32, u8); 19] = [
+        (b"void t(void){int x;int *p;x=p;}", 0, 8),
+        (b"void t(void){int *p;p=0;p=1-1;}", 0, 0),
+        (b"void t(void){int *p;p=1;}", 0, 8),
+        (b"void t(void){int *p;void *q;p=q;q=p;}", 0, 0),
+        (b"void t(void){void *q;q=t;}", 0, 8),
+        (b"void t(void){void (*f)(void);void *q;f=q;}", 0, 8),
+        (b"void t(void){void (*f)(void);f=t;f=&t;f=0;}", 0, 0),
+        (b"void t(void){int *p;char *q;p=q;}", 0, 8),
+        (b"void t(void){char c;int x;c=x;x=c;}", 0, 0),
+        (b"int *p=(char)256;", 0, 0),
+        (b"int *p=1;", 0, 8),
+        (b"int f(int *p){return f(1);}", 0, 8),
+        (b"int *f(void){return 1;}", 0, 8),
+        (b"int *f(void){return 0;}", 0, 0),
+        (b"struct s{int a;};struct u{int a;};struct s x;struct u y;void t(void){x=y;}", 4, 8),
+        (b"void t(void){int *p;int *q;p-=q;}", 0, 8),
+        (b"struct s{int a;};struct s x;void t(void){int y;y=x;}", 2, 8),
+        (b"void t(void){char *p;p=\"a\";}", 0, 0),
+        (b"void t(void){int *p;p=\"a\";}", 0, 8),
+    ];
+    for (source, item, rule) in rows {
+        assert_eq!(rt; verdict_of(rt.alloc(), source)?, Verdict::of(item, rule), "of {source:?}");
+    }
+    Ok(())
+}
+
+#[test]
+fn casts_go_between_scalars(rt: HostRuntime) -> Result<(), Fail> {
+    let rows: [(&[u8], u32, u8); 6] = [
+        (b"void t(void){(int*)1;(char)t;(void)t;(void)t();}", 0, 0),
+        (b"void t(void){(int)t();}", 0, 9),
+        (b"void t(void){(int[2])1;}", 0, 9),
+        (b"struct s{int a;};struct s x;void t(void){(int)x;}", 2, 9),
+        (b"struct s{int a;};void t(void){(struct s)1;}", 1, 9),
+        (b"struct s{int a;};struct s x;void t(void){(void)x;}", 0, 0),
+    ];
+    for (source, item, rule) in rows {
+        assert_eq!(rt; verdict_of(rt.alloc(), source)?, Verdict::of(item, rule), "of {source:?}");
+    }
+    Ok(())
+}
+
+#[test]
+fn calls_fit_their_function(rt: HostRuntime) -> Result<(), Fail> {
+    let rows: [(&[u8], u32, u8); 12] = [
+        (b"void t(void){int x;x();}", 0, 10),
+        (b"void t(void){int *p;p();}", 0, 10),
+        (b"void t(void){t();(*t)();(&t)();(***t)();}", 0, 0),
+        (b"void t(void){t(1);}", 0, 10),
+        (b"void t(void){print();}", 0, 10),
+        (b"void t(void){print(1,2);}", 0, 10),
+        (b"void t(void){int *p;print(p,2);}", 0, 8),
+        (b"void t(void){spawn(t,0);}", 0, 8),
+        (b"void w(void*p){}void t(void){spawn(w,0);spawn(&w,0);}", 0, 0),
+        (b"void t(void){lock(0);unlock(0);join(0);free(0);}", 0, 0),
+        (b"void t(void){input(1)+1;malloc(2)==0;}", 0, 0),
+        (b"void t(void){void (*f[2])(void);f();}", 0, 10),
+    ];
+    for (source, item, rule) in rows {
+        assert_eq!(rt; verdict_of(rt.alloc(), source)?, Verdict::of(item, rule), "of {source:?}");
+    }
+    Ok(())
+}
+
+#[test]
+fn members_are_of_structs(rt: HostRuntime) -> Result<(), Fail> {
+    let rows: [(&[u8], u32, u8); 8] = [
+        (b"void t(void){int x;x.a;}", 0, 11),
+        (b"void t(void){int *p;p->a;}", 0, 11),
+        (b"struct s{int a;};struct s x;void t(void){x.a;(&x)->a;x.b;}", 2, 11),
+        (b"struct s{int a;};struct s x;void t(void){x.a=1;(&x)->a=1;}", 0, 0),
+        (b"void t(void){struct s *p;p->a;}", 0, 11),
+        (b"struct s{int a;};struct s x;void t(void){x->a;}", 2, 11),
+        (b"struct s{int a;};struct s x[2];void t(void){x->a;x.a;}", 2, 11),
+        (b"struct s{int a[40000];int b[40000];};struct s *p;void t(void){p->a;}", 2, 11),
+    ];
+    for (source, item, rule) in rows {
+        assert_eq!(rt; verdict_of(rt.alloc(), source)?, Verdict::of(item, rule), "of {source:?}");
+    }
+    Ok(())
+}
+
+#[test]
+fn pointers_point_to_what_has_units(rt: HostRuntime) -> Result<(), Fail> {
+    let rows: [(&[u8], u32, u8); 10] = [
+        (b"void t(void){int x;*x;}", 0, 12),
+        (b"void t(void){int x;x[0];}", 0, 12),
+        (b"void t(void){1[2];}", 0, 12),
+        (b"void t(void){void *p;*p;}", 0, 12),
+        (b"void t(void){void *p;p[0];}", 0, 12),
+        (b"void t(void){struct s *p;*p;}", 0, 12),
+        (b"void t(void){t[0];}", 0, 12),
+        (b"void t(void){*t;}", 0, 0),
+        (b"void t(void){int *p;*p;p[0];}", 0, 0),
+        (b"void t(void){int a[2];*a;a[1];}", 0, 0),
+    ];
+    for (source, item, rule) in rows {
+        assert_eq!(rt; verdict_of(rt.alloc(), source)?, Verdict::of(item, rule), "of {source:?}");
+    }
+    Ok(())
+}
+
+#[test]
+fn only_lvalues_are_assigned(rt: HostRuntime) -> Result<(), Fail> {
+    let rows: [(&[u8], u32, u8); 15] = [
+        (b"void t(void){1=2;}", 0, 13),
+        (b"void t(void){int x;(x+1)=2;}", 0, 13),
+        (b"void t(void){int a[3];a=0;}", 0, 13),
+        (b"void t(void){int a[3];a+=1;}", 0, 13),
+        (b"void t(void){t=0;}", 0, 13),
+        (b"void t(void){t()=1;}", 0, 13),
+        (b"void t(void){t()++;}", 0, 7),
+        (b"void t(void){1++;}", 0, 13),
+        (b"void t(void){int x;++x;x--;(x)=1;}", 0, 0),
+        (b"void t(void){&1;}", 0, 13),
+        (b"void t(void){&t;}", 0, 0),
+        (b"void t(void){int x;&x;int a[2];&a;&a[1];}", 0, 0),
+        (b"void t(void){int x;&(x+1);}", 0, 13),
+        (b"void t(void){int *p;*p=1;p[1]=2;(*p)++;}", 0, 0),
+        (b"void t(void){int x;(x=1)=2;}", 0, 13),
+    ];
+    for (source, item, rule) in rows {
+        assert_eq!(rt; verdict_of(rt.alloc(), source)?, Verdict::of(item, rule), "of {source:?}");
+    }
+    Ok(())
+}
+
+#[test]
+fn conditions_are_scalars(rt: HostRuntime) -> Result<(), Fail> {
+    let rows: [(&[u8], u32, u8); 10] = [
+        (b"void t(void){if(t())1;}", 0, 17),
+        (b"void t(void){while(t())1;}", 0, 17),
+        (b"void t(void){do 1;while(t());}", 0, 17),
+        (b"void t(void){for(;t();)1;}", 0, 17),
+        (b"void t(void){!t();}", 0, 17),
+        (b"void t(void){t()&&1;}", 0, 17),
+        (b"void t(void){1||t();}", 0, 17),
+        (b"void t(void){t()?1:2;}", 0, 17),
+        (b"void t(void){int *p;if(p&&t)p;}", 0, 0),
+        (b"void t(void){t()?t():1;}", 0, 7),
+    ];
+    for (source, item, rule) in rows {
+        assert_eq!(rt; verdict_of(rt.alloc(), source)?, Verdict::of(item, rule), "of {source:?}");
+    }
+    Ok(())
+}

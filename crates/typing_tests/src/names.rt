@@ -1,0 +1,85 @@
+//! Names: what is declared, twice or not at all, used and not defined.
+
+use crate::source::{Verdict, verdict_of};
+use std::test::Fail;
+
+#[test]
+fn names_are_declared_before_they_are_used(rt: HostRuntime) -> Result<(), Fail> {
+    let rows: [(&[u8], u32, u8); 18] = [
+        (b"void t(void){x;}", 0, 1),
+        (b"void t(void){int x;x;}", 0, 0),
+        (b"int x=x;", 0, 16),
+        (b"int y=x;int x;", 0, 1),
+        (b"int x;int x2[sizeof y];", 1, 1),
+        (b"int x; int a[y];", 1, 1),
+        (b"void t(void){{int x;}x;}", 0, 1),
+        (b"void t(void){for(int i=0;;)i;i;}", 0, 1),
+        (b"void f(int n);int m[n];", 1, 1),
+        (b"int (*f(int n))(int a[n]){return 0;}", 0, 1),
+        (b"void t(void){print;}", 0, 1),
+        (b"void t(void){(print)(1);}", 0, 0),
+        (b"void t(void){sizeof malloc;}", 0, 1),
+        (b"void t(void){&print;}", 0, 1),
+        (b"void t(void){print=0;}", 0, 1),
+        (b"typedef int t,x[sizeof t];", 0, 1),
+        (b"int x={nowhere};", 0, 1),
+        (b"int f(int a,int b[a]);", 0, 16),
+    ];
+    for (source, item, rule) in rows {
+        assert_eq!(rt; verdict_of(rt.alloc(), source)?, Verdict::of(item, rule), "of {source:?}");
+    }
+    Ok(())
+}
+
+#[test]
+fn a_scope_has_a_name_once(rt: HostRuntime) -> Result<(), Fail> {
+    let rows: [(&[u8], u32, u8); 25] = [
+        (b"int x;int x;", 1, 2),
+        (b"int x;char x;", 1, 2),
+        (b"int x;void x(void);", 1, 2),
+        (b"void f(void);void f(void);void f(void){}", 0, 0),
+        (b"void f(void);int f(void);", 1, 2),
+        (b"void f(void){}void f(void){}", 1, 2),
+        (b"void t(void){int x;int x;}", 0, 2),
+        (b"void t(void){int x;{int x;}}", 0, 0),
+        (b"int f(int n){int n;return 0;}", 0, 2),
+        (b"int f(int n){{int n;}return 0;}", 0, 0),
+        (b"void f(int a,int a);", 0, 2),
+        (b"void f(int a){for(int a=0;;){int a;}}", 0, 0),
+        (b"typedef int t;int u;typedef int u;", 2, 2),
+        (b"int print;", 0, 2),
+        (b"void print(int);", 0, 0),
+        (b"void print(void);", 0, 2),
+        (b"void print(int n){}", 0, 2),
+        (b"void t(void){int print;}", 0, 2),
+        (b"void f(int print);", 0, 2),
+        (b"struct print{int print;};", 0, 0),
+        (b"typedef void print(int);", 0, 2),
+        (b"typedef int t,f(int t);", 0, 2),
+        (b"void g(void){int f(void);}char f(void);", 1, 2),
+        (b"void g(void){int f(void);}int f;", 0, 0),
+        (b"void g(void){int f(void);int f(void);}", 0, 0),
+    ];
+    for (source, item, rule) in rows {
+        assert_eq!(rt; verdict_of(rt.alloc(), source)?, Verdict::of(item, rule), "of {source:?}");
+    }
+    Ok(())
+}
+
+#[test]
+fn functions_that_are_used_are_defined(rt: HostRuntime) -> Result<(), Fail> {
+    let rows: [(&[u8], u32, u8); 8] = [
+        (b"void f(int);int g(void){f(1);return 0;}", 0, 6),
+        (b"void f(int);void g(void){f(1);}void f(int n){}", 0, 0),
+        (b"void f(int);", 0, 0),
+        (b"void f(void);void t(void){sizeof &f;}", 0, 6),
+        (b"int x;void f(void);void g(void);void t(void){g();f();}", 1, 6),
+        (b"void f(void);void (*p)(void)=f;", 0, 6),
+        (b"void t(void){int f(void);0?f():f();}", 0, 6),
+        (b"void t(void){print(1);}", 0, 0),
+    ];
+    for (source, item, rule) in rows {
+        assert_eq!(rt; verdict_of(rt.alloc(), source)?, Verdict::of(item, rule), "of {source:?}");
+    }
+    Ok(())
+}

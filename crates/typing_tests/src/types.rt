@@ -1,0 +1,89 @@
+//! Types that are declared: units, bounds, parts, tags and forms.
+
+use crate::source::{Verdict, verdict_of};
+use std::test::Fail;
+
+#[test]
+fn declared_types_have_units(rt: HostRuntime) -> Result<(), Fail> {
+    let rows: [(&[u8], u32, u8); 30] = [
+        (b"void x;", 0, 3),
+        (b"struct s;struct s x;", 1, 3),
+        (b"struct s;struct s *x;", 0, 0),
+        (b"struct s{struct s x;};", 0, 3),
+        (b"struct s{struct s *x;};", 0, 0),
+        (b"int a[0];", 0, 3),
+        (b"int a[65536];", 0, 0),
+        (b"int a[65537];", 0, 3),
+        (b"int a[-1];", 0, 3),
+        (b"int a[2][32768];", 0, 0),
+        (b"int a[2][32769];", 0, 3),
+        (b"int a[];", 0, 3),
+        (b"int a[]={1};", 0, 0),
+        (b"int a[][2]={{1}};", 0, 0),
+        (b"int a[2][]={{1}};", 0, 3),
+        (b"void a[2];", 0, 3),
+        (b"void (a[2])(void);", 0, 3),
+        (b"struct s{void x;};", 0, 3),
+        (b"void t(void){sizeof(void);}", 0, 3),
+        (b"void t(void){sizeof(struct s);}", 0, 3),
+        (b"void t(void){sizeof t;}", 0, 3),
+        (b"int f(int a[]);", 0, 3),
+        (b"int f(int a[2]);", 0, 0),
+        (b"int f(int a[][2]);", 0, 3),
+        (b"int b[2];int a[]=b;", 1, 3),
+        (b"char a[]=\"abc\";", 0, 0),
+        (b"int a[]=\"abc\";", 0, 3),
+        (b"void f(void x[2]);", 0, 3),
+        (b"typedef int t[];", 0, 3),
+        (b"typedef void t;", 0, 0),
+    ];
+    for (source, item, rule) in rows {
+        assert_eq!(rt; verdict_of(rt.alloc(), source)?, Verdict::of(item, rule), "of {source:?}");
+    }
+    Ok(())
+}
+
+#[test]
+fn tags_and_members_are_declared_once(rt: HostRuntime) -> Result<(), Fail> {
+    let rows: [(&[u8], u32, u8); 8] = [
+        (b"struct s{int a;};struct s{int a;};", 1, 4),
+        (b"struct s{int a;int a;};", 0, 4),
+        (b"struct s{int a;};struct u{int a;};", 0, 0),
+        (b"void t(void){struct s{int a;}x;}", 0, 4),
+        (b"void f(struct s{int a;}*p);", 0, 4),
+        (b"struct s{struct u{int a;}b;};", 0, 4),
+        (b"struct s{int a;struct s b;int a;};", 0, 3),
+        (b"typedef struct s{int a;}t;t x;", 0, 0),
+    ];
+    for (source, item, rule) in rows {
+        assert_eq!(rt; verdict_of(rt.alloc(), source)?, Verdict::of(item, rule), "of {source:?}");
+    }
+    Ok(())
+}
+
+#[test]
+fn declarations_have_an_allowed_form(rt: HostRuntime) -> Result<(), Fail> {
+    let rows: [(&[u8], u32, u8); 17] = [
+        (b"void f(struct s x);", 0, 18),
+        (b"struct s{int a;};void f(struct s x);", 1, 18),
+        (b"void f(void x);", 0, 18),
+        (b"void f(int a,int b,int c,int d,int e,int g,int h,int i);", 0, 0),
+        (b"void f(int a,int b,int c,int d,int e,int g,int h,int i,int j);", 0, 18),
+        (b"int f(int){return 0;}", 0, 18),
+        (b"void x{}", 0, 18),
+        (b"typedef void fn(void);fn f{}", 1, 18),
+        (b"int f(void)[3];", 0, 18),
+        (b"int f[2](void);", 0, 3),
+        (b"struct s{int a;};struct s f(void);", 1, 18),
+        (b"int (*f(void))[3];", 0, 0),
+        (b"void (*f(void))(void){return 0;}", 0, 0),
+        (b"typedef int f(void)(void);", 0, 18),
+        (b"int f()(int);", 0, 18),
+        (b"struct u x{}", 0, 18),
+        (b"int *f(){return 0;}", 0, 0),
+    ];
+    for (source, item, rule) in rows {
+        assert_eq!(rt; verdict_of(rt.alloc(), source)?, Verdict::of(item, rule), "of {source:?}");
+    }
+    Ok(())
+}
