@@ -39,7 +39,11 @@ fn operands_fit_their_operator(rt: HostRuntime) -> Result<(), Fail> {
         (b"void t(void){t()+1;}", 0, 7),
     ];
     for (source, item, rule) in rows {
-        assert_eq!(rt; verdict_of(rt.alloc(), source)?, Verdict::of(item, rule), "of {source:?}");
+        assert_eq!(rt;
+            verdict_of(rt.alloc(), source)?,
+            Verdict::of(item, rule),
+            "of {source:?}"
+        );
     }
     Ok(())
 }
@@ -61,14 +65,26 @@ fn values_convert_to_their_target(rt: HostRuntime) -> Result<(), Fail> {
         (b"int f(int *p){return f(1);}", 0, 8),
         (b"int *f(void){return 1;}", 0, 8),
         (b"int *f(void){return 0;}", 0, 0),
-        (b"struct s{int a;};struct u{int a;};struct s x;struct u y;void t(void){x=y;}", 4, 8),
+        (
+            b"struct s{int a;};struct u{int a;};struct s x;struct u y;void t(void){x=y;}",
+            4,
+            8,
+        ),
         (b"void t(void){int *p;int *q;p-=q;}", 0, 8),
-        (b"struct s{int a;};struct s x;void t(void){int y;y=x;}", 2, 8),
+        (
+            b"struct s{int a;};struct s x;void t(void){int y;y=x;}",
+            2,
+            8,
+        ),
         (b"void t(void){char *p;p=\"a\";}", 0, 0),
         (b"void t(void){int *p;p=\"a\";}", 0, 8),
     ];
     for (source, item, rule) in rows {
-        assert_eq!(rt; verdict_of(rt.alloc(), source)?, Verdict::of(item, rule), "of {source:?}");
+        assert_eq!(rt;
+            verdict_of(rt.alloc(), source)?,
+            Verdict::of(item, rule),
+            "of {source:?}"
+        );
     }
     Ok(())
 }
@@ -84,7 +100,11 @@ fn casts_go_between_scalars(rt: HostRuntime) -> Result<(), Fail> {
         (b"struct s{int a;};struct s x;void t(void){(void)x;}", 0, 0),
     ];
     for (source, item, rule) in rows {
-        assert_eq!(rt; verdict_of(rt.alloc(), source)?, Verdict::of(item, rule), "of {source:?}");
+        assert_eq!(rt;
+            verdict_of(rt.alloc(), source)?,
+            Verdict::of(item, rule),
+            "of {source:?}"
+        );
     }
     Ok(())
 }
@@ -100,13 +120,21 @@ fn calls_fit_their_function(rt: HostRuntime) -> Result<(), Fail> {
         (b"void t(void){print(1,2);}", 0, 10),
         (b"void t(void){int *p;print(p,2);}", 0, 8),
         (b"void t(void){spawn(t,0);}", 0, 8),
-        (b"void w(void*p){}void t(void){spawn(w,0);spawn(&w,0);}", 0, 0),
+        (
+            b"void w(void*p){}void t(void){spawn(w,0);spawn(&w,0);}",
+            0,
+            0,
+        ),
         (b"void t(void){lock(0);unlock(0);join(0);free(0);}", 0, 0),
         (b"void t(void){input(1)+1;malloc(2)==0;}", 0, 0),
         (b"void t(void){void (*f[2])(void);f();}", 0, 10),
     ];
     for (source, item, rule) in rows {
-        assert_eq!(rt; verdict_of(rt.alloc(), source)?, Verdict::of(item, rule), "of {source:?}");
+        assert_eq!(rt;
+            verdict_of(rt.alloc(), source)?,
+            Verdict::of(item, rule),
+            "of {source:?}"
+        );
     }
     Ok(())
 }
@@ -116,15 +144,35 @@ fn members_are_of_structs(rt: HostRuntime) -> Result<(), Fail> {
     let rows: [(&[u8], u32, u8); 8] = [
         (b"void t(void){int x;x.a;}", 0, 11),
         (b"void t(void){int *p;p->a;}", 0, 11),
-        (b"struct s{int a;};struct s x;void t(void){x.a;(&x)->a;x.b;}", 2, 11),
-        (b"struct s{int a;};struct s x;void t(void){x.a=1;(&x)->a=1;}", 0, 0),
+        (
+            b"struct s{int a;};struct s x;void t(void){x.a;(&x)->a;x.b;}",
+            2,
+            11,
+        ),
+        (
+            b"struct s{int a;};struct s x;void t(void){x.a=1;(&x)->a=1;}",
+            0,
+            0,
+        ),
         (b"void t(void){struct s *p;p->a;}", 0, 11),
         (b"struct s{int a;};struct s x;void t(void){x->a;}", 2, 11),
-        (b"struct s{int a;};struct s x[2];void t(void){x->a;x.a;}", 2, 11),
-        (b"struct s{int a[40000];int b[40000];};struct s *p;void t(void){p->a;}", 2, 11),
+        (
+            b"struct s{int a;};struct s x[2];void t(void){x->a;x.a;}",
+            2,
+            11,
+        ),
+        (
+            b"struct s{int a[40000];int b[40000];};struct s *p;void t(void){p->a;}",
+            2,
+            11,
+        ),
     ];
     for (source, item, rule) in rows {
-        assert_eq!(rt; verdict_of(rt.alloc(), source)?, Verdict::of(item, rule), "of {source:?}");
+        assert_eq!(rt;
+            verdict_of(rt.alloc(), source)?,
+            Verdict::of(item, rule),
+            "of {source:?}"
+        );
     }
     Ok(())
 }
@@ -144,7 +192,11 @@ fn pointers_point_to_what_has_units(rt: HostRuntime) -> Result<(), Fail> {
         (b"void t(void){int a[2];*a;a[1];}", 0, 0),
     ];
     for (source, item, rule) in rows {
-        assert_eq!(rt; verdict_of(rt.alloc(), source)?, Verdict::of(item, rule), "of {source:?}");
+        assert_eq!(rt;
+            verdict_of(rt.alloc(), source)?,
+            Verdict::of(item, rule),
+            "of {source:?}"
+        );
     }
     Ok(())
 }
@@ -169,7 +221,11 @@ fn only_lvalues_are_assigned(rt: HostRuntime) -> Result<(), Fail> {
         (b"void t(void){int x;(x=1)=2;}", 0, 13),
     ];
     for (source, item, rule) in rows {
-        assert_eq!(rt; verdict_of(rt.alloc(), source)?, Verdict::of(item, rule), "of {source:?}");
+        assert_eq!(rt;
+            verdict_of(rt.alloc(), source)?,
+            Verdict::of(item, rule),
+            "of {source:?}"
+        );
     }
     Ok(())
 }
@@ -189,7 +245,11 @@ fn conditions_are_scalars(rt: HostRuntime) -> Result<(), Fail> {
         (b"void t(void){t()?t():1;}", 0, 7),
     ];
     for (source, item, rule) in rows {
-        assert_eq!(rt; verdict_of(rt.alloc(), source)?, Verdict::of(item, rule), "of {source:?}");
+        assert_eq!(rt;
+            verdict_of(rt.alloc(), source)?,
+            Verdict::of(item, rule),
+            "of {source:?}"
+        );
     }
     Ok(())
 }

@@ -26,7 +26,11 @@ fn names_are_declared_before_they_are_used(rt: HostRuntime) -> Result<(), Fail> 
         (b"int f(int a,int b[a]);", 0, 16),
     ];
     for (source, item, rule) in rows {
-        assert_eq!(rt; verdict_of(rt.alloc(), source)?, Verdict::of(item, rule), "of {source:?}");
+        assert_eq!(rt;
+            verdict_of(rt.alloc(), source)?,
+            Verdict::of(item, rule),
+            "of {source:?}"
+        );
     }
     Ok(())
 }
@@ -61,7 +65,11 @@ fn a_scope_has_a_name_once(rt: HostRuntime) -> Result<(), Fail> {
         (b"void g(void){int f(void);int f(void);}", 0, 0),
     ];
     for (source, item, rule) in rows {
-        assert_eq!(rt; verdict_of(rt.alloc(), source)?, Verdict::of(item, rule), "of {source:?}");
+        assert_eq!(rt;
+            verdict_of(rt.alloc(), source)?,
+            Verdict::of(item, rule),
+            "of {source:?}"
+        );
     }
     Ok(())
 }
@@ -73,13 +81,21 @@ fn functions_that_are_used_are_defined(rt: HostRuntime) -> Result<(), Fail> {
         (b"void f(int);void g(void){f(1);}void f(int n){}", 0, 0),
         (b"void f(int);", 0, 0),
         (b"void f(void);void t(void){sizeof &f;}", 0, 6),
-        (b"int x;void f(void);void g(void);void t(void){g();f();}", 1, 6),
+        (
+            b"int x;void f(void);void g(void);void t(void){g();f();}",
+            1,
+            6,
+        ),
         (b"void f(void);void (*p)(void)=f;", 0, 6),
         (b"void t(void){int f(void);0?f():f();}", 0, 6),
         (b"void t(void){print(1);}", 0, 0),
     ];
     for (source, item, rule) in rows {
-        assert_eq!(rt; verdict_of(rt.alloc(), source)?, Verdict::of(item, rule), "of {source:?}");
+        assert_eq!(rt;
+            verdict_of(rt.alloc(), source)?,
+            Verdict::of(item, rule),
+            "of {source:?}"
+        );
     }
     Ok(())
 }

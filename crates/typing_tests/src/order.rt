@@ -23,7 +23,11 @@ fn the_first_broken_rule_is_named(rt: HostRuntime) -> Result<(), Fail> {
         (b"int f(void){return f;}", 0, 8),
     ];
     for (source, item, rule) in rows {
-        assert_eq!(rt; verdict_of(rt.alloc(), source)?, Verdict::of(item, rule), "of {source:?}");
+        assert_eq!(rt;
+            verdict_of(rt.alloc(), source)?,
+            Verdict::of(item, rule),
+            "of {source:?}"
+        );
     }
     Ok(())
 }
@@ -42,7 +46,11 @@ fn a_source_has_a_main(rt: HostRuntime) -> Result<(), Fail> {
         (b"void f(void);int x;void t(void){f();}", 0, 6),
     ];
     for (source, item, rule) in rows {
-        assert_eq!(rt; verdict_of_whole(rt.alloc(), source)?, Verdict::of(item, rule), "of {source:?}");
+        assert_eq!(rt;
+            verdict_of_whole(rt.alloc(), source)?,
+            Verdict::of(item, rule),
+            "of {source:?}"
+        );
     }
     Ok(())
 }
@@ -54,9 +62,15 @@ fn a_thousand_parts_are_allowed(rt: HostRuntime) -> Result<(), Fail> {
         source.push(b'*')?;
     }
     source.extend_from_slice(b"x;".as_slice())?;
-    assert_eq!(rt; verdict_of_whole(rt.alloc(), source.as_slice())?, Verdict::Refused(1, 5));
+    assert_eq!(rt;
+        verdict_of_whole(rt.alloc(), source.as_slice())?,
+        Verdict::Refused(1, 5)
+    );
     let mut longer = Vec::from_slice(rt.alloc(), b"int *".as_slice())?;
     longer.extend_from_slice(&source.as_slice()[4..])?;
-    assert_eq!(rt; verdict_of_whole(rt.alloc(), longer.as_slice())?, Verdict::Refused(0, 3));
+    assert_eq!(rt;
+        verdict_of_whole(rt.alloc(), longer.as_slice())?,
+        Verdict::Refused(0, 3)
+    );
     Ok(())
 }

@@ -9,12 +9,20 @@ fn loops_are_left_inside_them(rt: HostRuntime) -> Result<(), Fail> {
         (b"void t(void){break;}", 0, 14),
         (b"void t(void){continue;}", 0, 14),
         (b"void t(void){while(1){break;continue;}}", 0, 0),
-        (b"void t(void){for(;;){if(1)break;}do continue;while(0);}", 0, 0),
+        (
+            b"void t(void){for(;;){if(1)break;}do continue;while(0);}",
+            0,
+            0,
+        ),
         (b"void t(void){if(1)break;}", 0, 14),
         (b"void t(void){while(1);break;}", 0, 14),
     ];
     for (source, item, rule) in rows {
-        assert_eq!(rt; verdict_of(rt.alloc(), source)?, Verdict::of(item, rule), "of {source:?}");
+        assert_eq!(rt;
+            verdict_of(rt.alloc(), source)?,
+            Verdict::of(item, rule),
+            "of {source:?}"
+        );
     }
     Ok(())
 }
@@ -31,7 +39,11 @@ fn returns_fit_their_function(rt: HostRuntime) -> Result<(), Fail> {
         (b"void t(void){return;}", 0, 0),
     ];
     for (source, item, rule) in rows {
-        assert_eq!(rt; verdict_of(rt.alloc(), source)?, Verdict::of(item, rule), "of {source:?}");
+        assert_eq!(rt;
+            verdict_of(rt.alloc(), source)?,
+            Verdict::of(item, rule),
+            "of {source:?}"
+        );
     }
     Ok(())
 }
@@ -49,7 +61,11 @@ fn globals_begin_with_constants(rt: HostRuntime) -> Result<(), Fail> {
         (b"int a[3];int *p=a+1;", 1, 16),
         (b"int a[2][2];int *p=a[1];", 1, 16),
         (b"int a[2][2];int *p=&a[1][1];", 0, 0),
-        (b"struct s{int a;int b[2];};struct s x;int *p=&x.a;int *q=&x.b[1];int *r=x.b;", 4, 16),
+        (
+            b"struct s{int a;int b[2];};struct s x;int *p=&x.a;int *q=&x.b[1];int *r=x.b;",
+            4,
+            16,
+        ),
         (b"char *p=\"abc\";", 0, 0),
         (b"void f(void){}void (*p)(void)=f;void (*q)(void)=&f;", 0, 0),
         (b"void f(void){}void (*p)(void)=*f;", 1, 16),
@@ -62,7 +78,11 @@ fn globals_begin_with_constants(rt: HostRuntime) -> Result<(), Fail> {
         (b"void f(void){int n;int m=n;}", 0, 0),
     ];
     for (source, item, rule) in rows {
-        assert_eq!(rt; verdict_of(rt.alloc(), source)?, Verdict::of(item, rule), "of {source:?}");
+        assert_eq!(rt;
+            verdict_of(rt.alloc(), source)?,
+            Verdict::of(item, rule),
+            "of {source:?}"
+        );
     }
     Ok(())
 }
@@ -77,7 +97,11 @@ fn initialisers_follow_their_type(rt: HostRuntime) -> Result<(), Fail> {
         (b"char a[3]=\"abc\";", 0, 18),
         (b"char a[4]=\"abc\";", 0, 0),
         (b"char a[]={\"abc\"};", 0, 8),
-        (b"struct s{int a;int b;};struct s x={1,2};struct s y={1,2,3};", 2, 18),
+        (
+            b"struct s{int a;int b;};struct s x={1,2};struct s y={1,2,3};",
+            2,
+            18,
+        ),
         (b"int a[2][2]={{1,2},{3,4}};", 0, 0),
         (b"int a[2][2]={1,2};", 0, 18),
         (b"int a[2]=1;", 0, 18),
@@ -87,7 +111,11 @@ fn initialisers_follow_their_type(rt: HostRuntime) -> Result<(), Fail> {
         (b"void t(void){char a[2][4]={\"abc\",\"de\"};}", 0, 0),
     ];
     for (source, item, rule) in rows {
-        assert_eq!(rt; verdict_of(rt.alloc(), source)?, Verdict::of(item, rule), "of {source:?}");
+        assert_eq!(rt;
+            verdict_of(rt.alloc(), source)?,
+            Verdict::of(item, rule),
+            "of {source:?}"
+        );
     }
     Ok(())
 }

@@ -38,7 +38,11 @@ fn declared_types_have_units(rt: HostRuntime) -> Result<(), Fail> {
         (b"typedef void t;", 0, 0),
     ];
     for (source, item, rule) in rows {
-        assert_eq!(rt; verdict_of(rt.alloc(), source)?, Verdict::of(item, rule), "of {source:?}");
+        assert_eq!(rt;
+            verdict_of(rt.alloc(), source)?,
+            Verdict::of(item, rule),
+            "of {source:?}"
+        );
     }
     Ok(())
 }
@@ -56,7 +60,11 @@ fn tags_and_members_are_declared_once(rt: HostRuntime) -> Result<(), Fail> {
         (b"typedef struct s{int a;}t;t x;", 0, 0),
     ];
     for (source, item, rule) in rows {
-        assert_eq!(rt; verdict_of(rt.alloc(), source)?, Verdict::of(item, rule), "of {source:?}");
+        assert_eq!(rt;
+            verdict_of(rt.alloc(), source)?,
+            Verdict::of(item, rule),
+            "of {source:?}"
+        );
     }
     Ok(())
 }
@@ -67,8 +75,16 @@ fn declarations_have_an_allowed_form(rt: HostRuntime) -> Result<(), Fail> {
         (b"void f(struct s x);", 0, 18),
         (b"struct s{int a;};void f(struct s x);", 1, 18),
         (b"void f(void x);", 0, 18),
-        (b"void f(int a,int b,int c,int d,int e,int g,int h,int i);", 0, 0),
-        (b"void f(int a,int b,int c,int d,int e,int g,int h,int i,int j);", 0, 18),
+        (
+            b"void f(int a,int b,int c,int d,int e,int g,int h,int i);",
+            0,
+            0,
+        ),
+        (
+            b"void f(int a,int b,int c,int d,int e,int g,int h,int i,int j);",
+            0,
+            18,
+        ),
         (b"int f(int){return 0;}", 0, 18),
         (b"void x{}", 0, 18),
         (b"typedef void fn(void);fn f{}", 1, 18),
@@ -83,7 +99,11 @@ fn declarations_have_an_allowed_form(rt: HostRuntime) -> Result<(), Fail> {
         (b"int *f(){return 0;}", 0, 0),
     ];
     for (source, item, rule) in rows {
-        assert_eq!(rt; verdict_of(rt.alloc(), source)?, Verdict::of(item, rule), "of {source:?}");
+        assert_eq!(rt;
+            verdict_of(rt.alloc(), source)?,
+            Verdict::of(item, rule),
+            "of {source:?}"
+        );
     }
     Ok(())
 }
