@@ -1,5 +1,5 @@
 -- The walk of each form of an expression, a spec, a declarator and a type word.
-use Rattle.std.proofs.Common.{◌≡◌, ℕ, Bool, List, map, Some, None, ap}
+use Rattle.std.proofs.Common.{◌≡◌, ℕ, Bool, List, map, Some, None, ap, sym, ◌∙◌}
 use Rattle.std.specs.Option.{option_map}
 use Rattle.c_layers.specs.declared.layer.Layer.{Layer}
 use Rattle.c_layers.specs.declared.layer.Layer.TheVariants as layer
@@ -10,6 +10,7 @@ use Rattle.c_tree.specs.declared.expression.Declarator.{Declarator, out-Declarat
 use Rattle.c_tree.specs.declared.expression.Direct.TheOpen.{Direct-F, Param-F, Params-F, Suffix-F}
 use Rattle.c_tree.specs.declared.expression.Direct.TheVariants as direct
 use Rattle.c_tree.specs.declared.expression.Expr.{Expr}
+use Rattle.c_tree.specs.declared.expression.Expr.TheVariants as expr
 use Rattle.c_tree.specs.declared.expression.MemberDecl.{MemberDecl, out-MemberDecl}
 use Rattle.c_tree.specs.declared.expression.Param.{Param}
 use Rattle.c_tree.specs.declared.expression.Param.TheVariants as param
@@ -25,11 +26,17 @@ use Rattle.c_typed.specs.declared.expression.TypedSpec.TheVariants as typed_spec
 use Rattle.c_rules.specs.declared.place.Place.{Place}
 use Rattle.c_scope.specs.declared.world.World.{World}
 use Rattle.c_scope.specs.Walk.{pure}
-use Rattle.c_expr_typing.specs.Trees.{abstract_step, bounded, declarator_step, direct_step, expr_step, member_step, param_step, params_step, struct_body, struct_spec, suffix_step, type_name, type_word_step, walk_steps, walked}
+use Rattle.c_expr_typing.specs.Trees.{abstract_step, bounded, called, declarator_step, direct_step, expr_step, member_step, param_step, params_step, struct_body, struct_spec, suffix_step, type_name, type_word_step, walk_steps, walked}
 
 pub expr-of : (e : Expr) (place : Place) (w : World) → walked.expr e place w ≡ expr_step (expr_node walked e) place w
 unfolding walked
 expr-of e place w = ap (λ f. f place w) (tree.expr-of walk_steps e)
+
+-- a call's node has the walks of its parts
+pub expr-Call : (f : Expr) (es : List Expr) (place : Place) (w : World)
+    → expr_step (expr_node walked (expr.Call f es)) place w ≡ called (walked.expr f) (map walked.expr es) w
+unfolding walked
+expr-Call f es place w = sym (expr-of (expr.Call f es) place w) ∙ ap (λ g. g place w) (tree.expr-Call walk_steps f es)
 
 -- ---- specs
 

@@ -98,12 +98,12 @@ cast_parts t a = do
   x ← a Value
   pure (to, x)
 
--- what is called, and the arguments
-abbrev pub call_parts : OfExpr → List OfExpr → Walk (TypedExpr × List TypedExpr)
-call_parts f es = do
+-- what is called, then the arguments
+abbrev pub called : OfExpr → List OfExpr → Walk TypedExpr
+called f es = do
   x ← f Callee
   ys ← arguments es
-  pure (x, ys)
+  call x ys
 
 abbrev pub expr_step : Node Found Expr-F → OfExpr
 expr_step (Expr-F.Assign a o b) place = operands a b >>= (λ p. assignment p.0 o p.1)
@@ -116,7 +116,7 @@ expr_step (Expr-F.Unary o a) place = a Value >>= unary_of o
 expr_step (Expr-F.SizeofExpr a) place = a Value >>= size_of_value
 expr_step (Expr-F.SizeofType t) place = t >>= size_of_type
 expr_step (Expr-F.Index a i) place = operands a i >>= (λ p. index p.0 p.1)
-expr_step (Expr-F.Call f es) place = call_parts f es >>= (λ p. call p.0 p.1)
+expr_step (Expr-F.Call f es) place = called f es
 expr_step (Expr-F.Member a m) place = a Value >>= (λ x. member x m)
 expr_step (Expr-F.Arrow a m) place = a Value >>= (λ x. arrow x m)
 expr_step (Expr-F.PostIncrement a) place = a Value >>= stepped op.Add form.PostIncrement

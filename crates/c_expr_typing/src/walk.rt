@@ -4,7 +4,7 @@
 ghost use Rattle.std.specs.Prelude.{◌≡◌, map, []};
 ghost use Rattle.c_expr_typing.specs.Trees as tree;
 ghost use Rattle.c_expr_typing.specs.Trees.{walked};
-ghost use Rattle.c_scope.specs.Walk.{each_pair, maybe, within};
+ghost use Rattle.c_scope.specs.Walk.{each_pair, maybe};
 ghost use Rattle.c_scope.specs.Walks.{Walks};
 ghost use Rattle.c_tree.specs.Fold.{expr_node};
 ghost use Rattle.std.specs.Option.{option_map};
@@ -115,10 +115,7 @@ fn expression_node(
             let (a, i) = operands(alloc, world, a.get(), i.get())?;
             index(alloc, world, a, i)
         }
-        Expr::Call(callee, given) => {
-            let (callee, given) = call_parts(alloc, world, callee.get(), given.as_slice())?;
-            call(alloc, world, callee, given)
-        }
+        Expr::Call(callee, given) => called(alloc, world, callee.get(), given),
         Expr::Member(a, name) => {
             let a = expression(alloc, world, a.get(), Place::Value)?;
             member(alloc, world, a, name)
@@ -189,20 +186,20 @@ fn cast_parts(
     Ok((word, a))
 }
 
-/// What is called, and the arguments.
+/// What is called, then the arguments.
 #[cycle(walk)]
-fn call_parts(
+fn called(
     alloc: Global,
     world: &mut World,
     callee: &Expr,
-    given: &[Expr],
-) -> Result<(TypedExpr, Items<TypedExpr>), Failure>
-    ensures { Walks (tree.call_parts (walked.expr callee.now) (map walked.expr given.now) world.old)
+    given: &Items<Expr>,
+) -> Result<TypedExpr, Failure>
+    ensures { Walks (tree.called (walked.expr callee.now) (map walked.expr given.now) world.old)
         result world.new }
 {
     let callee = expression(alloc, world, callee, Place::Callee)?;
-    let given = arguments(alloc, world, given)?;
-    Ok((callee, given))
+    let given = arguments(alloc, world, given.as_slice())?;
+    call(alloc, world, callee, given)
 }
 
 /// The arguments of a call.

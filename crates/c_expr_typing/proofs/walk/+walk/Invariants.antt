@@ -1,4 +1,4 @@
-use Rattle.std.proofs.Common.{◌≡◌, ◌+◌, ◌*◌, drop, map, max, []}
+use Rattle.std.proofs.Common.{◌≡◌, ℕ, ◌+◌, ◌*◌, drop, map, max, [], Option, Some, None}
 use denote.Param.Weighed.{most}
 use Rattle.c_tree.specs.declared.expression.AbstractDeclarator.{AbstractDeclarator, size-AbstractDeclarator}
 use Rattle.c_tree.specs.declared.expression.Declarator.{size-Declarator}
@@ -34,8 +34,8 @@ decreases-arms l = 4 * max (size-Expr l.c.now) (max (size-Expr l.a.now) (size-Ex
 abbrev pub decreases-cast_parts : goal.decreases-cast_parts
 decreases-cast_parts l = 4 * max (size-TypeWord l.word.now) (size-Expr l.a.now) + 3
 
-abbrev pub decreases-call_parts : goal.decreases-call_parts
-decreases-call_parts l = 4 * max (size-Expr l.callee.now) (most size-Expr l.given.now) + 3
+abbrev pub decreases-called : goal.decreases-called
+decreases-called l = 4 * max (size-Expr l.callee.now) (most size-Expr l.given.now) + 3
 
 abbrev pub decreases-arguments : goal.decreases-arguments
 decreases-arguments l = 4 * most size-Expr l.all.now + 2
@@ -45,6 +45,13 @@ decreases-type_word l = 4 * size-TypeWord l.word.now
 
 abbrev pub decreases-abstract_declarator : goal.decreases-abstract_declarator
 decreases-abstract_declarator l = 4 * size-AbstractDeclarator l.declarator.now
+
+abbrev inside_size : Option AbstractDeclarator → ℕ
+inside_size None = 0
+inside_size (Some a) = size-AbstractDeclarator a
+
+abbrev pub decreases-bracketed : goal.decreases-bracketed
+decreases-bracketed l = 4 * inside_size l.inside.now + 1
 
 abbrev pub decreases-declarator : goal.decreases-declarator
 decreases-declarator l = 4 * size-Declarator l.declarator.now
@@ -106,4 +113,4 @@ invariant-members-loop-line l =
 abbrev pub invariant-member_declarators-loop-one : goal.invariant-member_declarators-loop-one
 invariant-member_declarators-loop-one l =
     declarators_from l.base l.found (map walked.declarator (drop l.one-index l.all)) l.members l.world
-    ≡ member_declarators l.base (map walked.declarator l.all) l.initial.before l.initial.world
+    ≡ member_declarators l.base (map walked.declarator l.all) l.initial.members l.initial.world
