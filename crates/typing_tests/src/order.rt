@@ -1,6 +1,7 @@
 //! The order of rules, and what is asked of whole sources.
 
 use crate::source::{Verdict, verdict_of, verdict_of_whole};
+use std::alloc::{AllocError, Global};
 use std::test::Fail;
 
 #[test]
@@ -55,19 +56,24 @@ fn a_source_has_a_main(rt: HostRuntime) -> Result<(), Fail> {
     Ok(())
 }
 
-#[test]
-fn a_thousand_parts_are_allowed(rt: HostRuntime) -> Result<(), Fail> {
-    let mut source = Vec::from_slice(rt.alloc(), b"int ".as_slice())?;
-    for _ in 0..999 {
+/// `int`, so many stars, and `x;`
+fn starred(alloc: Global, stars: u32) -> Result<Vec<u8>, AllocError> {
+    let mut source = Vec::from_slice(alloc, b"int ".as_slice())?;
+    for _ in 0..stars {
         source.push(b'*')?;
     }
     source.extend_from_slice(b"x;".as_slice())?;
+    Ok(source)
+}
+
+#[test]
+fn a_thousand_parts_are_allowed(rt: HostRuntime) -> Result<(), Fail> {
+    let source = starred(rt.alloc(), 999)?;
     assert_eq!(rt;
         verdict_of_whole(rt.alloc(), source.as_slice())?,
         Verdict::Refused(1, 5)
     );
-    let mut longer = Vec::from_slice(rt.alloc(), b"int *".as_slice())?;
-    longer.extend_from_slice(&source.as_slice()[4..])?;
+    let longer = starred(rt.alloc(), 1_000)?;
     assert_eq!(rt;
         verdict_of_whole(rt.alloc(), longer.as_slice())?,
         Verdict::Refused(0, 3)
