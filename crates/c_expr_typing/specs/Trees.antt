@@ -43,7 +43,7 @@ use Rattle.c_scope.specs.Walk.{Walk, ◌>>=◌, ◌>>◌, breaks, each, each_pai
 use Rattle.c_expr_typing.specs.declared.layered.LayeredDeclarator.{LayeredDeclarator}
 use Rattle.c_rules.specs.declared.place.Place.{Place}
 use Rattle.c_rules.specs.declared.place.Place.TheVariants.{Callee, Value}
-use Rattle.c_rules.specs.Operators.{constant_of}
+use Rattle.c_operators.specs.Operators.{constant_of}
 use Rattle.c_rules.specs.Rules.{arrow, assignment, binary, call, cast, conditional, identifier, index, member, number, size_of_type, size_of_value, stepped, text, unary_of}
 
 -- ---- what the walk of each part finds

@@ -349,7 +349,7 @@ fn suffix(
 
 /// An array with this bound.
 #[cycle(walk)]
-#[tactic(auto, unfolding(c_rules::specs::Operators::constant_of))]
+#[tactic(auto, unfolding(c_operators::specs::Operators::constant_of))]
 fn bounded(alloc: Global, world: &mut World, value: &Expr) -> Result<(TypedSuffix, Layer), Failure>
     ensures { Walks (tree.bounded (walked.expr value.now) world.old) result world.new }
 {

@@ -1,3 +1,1 @@
-pub mod Operators
-pub mod Constants
 pub mod Rules

@@ -42,8 +42,8 @@ use Rattle.c_scope.specs.Scopes.{known_function, meaning_of}
 use Rattle.c_scope.specs.Walk.{Walk, ◌>>=◌, ◌>>◌, breaks, change, found, world, pure, rule}
 use Rattle.c_rules.specs.declared.place.Place.{Place}
 use Rattle.c_rules.specs.declared.place.Place.TheVariants.{Callee, Value}
-use Rattle.c_rules.specs.Constants.{of_binary, of_cast, of_conditional, of_unary}
-use Rattle.c_rules.specs.Operators.{FormLayer, chosen, constant_of, converts, form_of, is_assignable, is_integer_value, is_lvalue, is_scalar_value, operated, takes_value, type_converts, type_of, typed, value_type}
+use Rattle.c_operators.specs.Constants.{of_binary, of_cast, of_conditional, of_unary}
+use Rattle.c_operators.specs.Operators.{FormLayer, chosen, constant_of, converts, form_of, is_assignable, is_integer_value, is_lvalue, is_scalar_value, operated, takes_value, type_converts, type_of, typed, value_type}
 
 -- ---- names
 

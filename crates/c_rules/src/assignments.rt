@@ -7,9 +7,8 @@ ghost use Rattle.c_tree.specs.declared.operator.BinaryOperator.TheVariants as op
 ghost use Rattle.c_typed.specs.declared.expression.TypedForm.TheVariants as form;
 ghost use Rattle.c_scope.specs.Walks.{Walks};
 
-use crate::conversions::{boxed_pair, converts, takes_value, type_converts};
-use crate::lvalues::is_assignable;
-use crate::operators::operated;
+use crate::operands::{boxed_pair};
+use c_operators::{converts, is_assignable, operated, takes_value, type_converts};
 use c_scope::{Failure, Rule, World, found};
 use c_tree::{AssignOperator, BinaryOperator};
 use c_typed::{Constant, TypedExpr, TypedForm};
@@ -22,7 +21,7 @@ use std::alloc::{AllocError, Global};
 /// # Errors
 ///
 /// `Broken`, at the first rule that is broken. `Memory`, where no memory is left.
-#[tactic(auto, unfolding(crate::specs::Rules::assignment, crate::specs::Operators::typed))]
+#[tactic(auto, unfolding(crate::specs::Rules::assignment, c_operators::specs::Operators::typed))]
 pub fn assignment(
     alloc: Global,
     world: &World,
@@ -59,7 +58,7 @@ fn assigned(
 }
 
 /// Whether the target takes no value at all, or the value converts to it.
-#[tactic(auto, unfolding(crate::specs::Rules::takes, crate::specs::Operators::type_of))]
+#[tactic(auto, unfolding(crate::specs::Rules::takes, c_operators::specs::Operators::type_of))]
 fn takes(alloc: Global, x: &TypedExpr, y: &TypedExpr) -> Result<bool, AllocError>
     ensures { IfOk result (λ takes. takes ≡ spec.takes x.now y.now) }
 {
@@ -67,7 +66,7 @@ fn takes(alloc: Global, x: &TypedExpr, y: &TypedExpr) -> Result<bool, AllocError
 }
 
 /// The same of a value of this type.
-#[tactic(auto, unfolding(crate::specs::Rules::takes_type, crate::specs::Operators::type_of))]
+#[tactic(auto, unfolding(crate::specs::Rules::takes_type, c_operators::specs::Operators::type_of))]
 fn takes_type(x: &TypedExpr, ty: &Ty) -> bool
     ensures { result ≡ spec.takes_type x.now ty.now }
 {
@@ -75,7 +74,7 @@ fn takes_type(x: &TypedExpr, ty: &Ty) -> bool
 }
 
 /// What `=` asks, and the type that it gives.
-#[tactic(auto, unfolding(crate::specs::Rules::plain, crate::specs::Operators::type_of))]
+#[tactic(auto, unfolding(crate::specs::Rules::plain, c_operators::specs::Operators::type_of))]
 fn plain(alloc: Global, _world: &World, x: &TypedExpr, y: &TypedExpr) -> Result<Ty, Failure>
     ensures { Walks (spec.plain x.now y.now _world.now) result _world.now }
 {
@@ -100,7 +99,7 @@ fn assigned_type(ty: &Ty) -> Result<Ty, AllocError>
 }
 
 /// What `x op= y` asks, and the type that it gives.
-#[tactic(auto, unfolding(crate::specs::Rules::updated, crate::specs::Operators::type_of))]
+#[tactic(auto, unfolding(crate::specs::Rules::updated, c_operators::specs::Operators::type_of))]
 fn updated(
     alloc: Global,
     world: &World,
@@ -124,7 +123,7 @@ fn updated(
 }
 
 /// What `++` and `--` ask, as `op= 1`, and the type that they give.
-#[tactic(auto, unfolding(crate::specs::Operators::typed))]
+#[tactic(auto, unfolding(c_operators::specs::Operators::typed))]
 fn stepped(
     alloc: Global,
     world: &World,
@@ -146,7 +145,7 @@ fn stepped(
 /// # Errors
 ///
 /// `Broken`, at the first rule that is broken. `Memory`, where no memory is left.
-#[tactic(auto, unfolding(crate::specs::Rules::stepped, crate::specs::Operators::typed))]
+#[tactic(auto, unfolding(crate::specs::Rules::stepped, c_operators::specs::Operators::typed))]
 pub fn pre_increment(alloc: Global, world: &World, x: TypedExpr) -> Result<TypedExpr, Failure>
     ensures { Walks (spec.stepped op.Add form.PreIncrement x world.now) result world.now }
 {
@@ -164,7 +163,7 @@ pub fn pre_increment(alloc: Global, world: &World, x: TypedExpr) -> Result<Typed
 /// # Errors
 ///
 /// `Broken`, at the first rule that is broken. `Memory`, where no memory is left.
-#[tactic(auto, unfolding(crate::specs::Rules::stepped, crate::specs::Operators::typed))]
+#[tactic(auto, unfolding(crate::specs::Rules::stepped, c_operators::specs::Operators::typed))]
 pub fn pre_decrement(alloc: Global, world: &World, x: TypedExpr) -> Result<TypedExpr, Failure>
     ensures { Walks (spec.stepped op.Subtract form.PreDecrement x world.now) result world.now }
 {
@@ -182,7 +181,7 @@ pub fn pre_decrement(alloc: Global, world: &World, x: TypedExpr) -> Result<Typed
 /// # Errors
 ///
 /// `Broken`, at the first rule that is broken. `Memory`, where no memory is left.
-#[tactic(auto, unfolding(crate::specs::Rules::stepped, crate::specs::Operators::typed))]
+#[tactic(auto, unfolding(crate::specs::Rules::stepped, c_operators::specs::Operators::typed))]
 pub fn post_increment(alloc: Global, world: &World, x: TypedExpr) -> Result<TypedExpr, Failure>
     ensures { Walks (spec.stepped op.Add form.PostIncrement x world.now) result world.now }
 {
@@ -200,7 +199,7 @@ pub fn post_increment(alloc: Global, world: &World, x: TypedExpr) -> Result<Type
 /// # Errors
 ///
 /// `Broken`, at the first rule that is broken. `Memory`, where no memory is left.
-#[tactic(auto, unfolding(crate::specs::Rules::stepped, crate::specs::Operators::typed))]
+#[tactic(auto, unfolding(crate::specs::Rules::stepped, c_operators::specs::Operators::typed))]
 pub fn post_decrement(alloc: Global, world: &World, x: TypedExpr) -> Result<TypedExpr, Failure>
     ensures { Walks (spec.stepped op.Subtract form.PostDecrement x world.now) result world.now }
 {

@@ -5,7 +5,7 @@ ghost use Rattle.std.specs.Option.{option_copied};
 ghost use Rattle.c_rules.specs.Rules as spec;
 ghost use Rattle.c_scope.specs.Walks.{Walks};
 
-use crate::conversions::converts;
+use c_operators::{converts};
 use c_scope::{Failure, Rule, World, found};
 use c_typed::{Constant, TypedExpr, TypedForm};
 use c_types::{FnTy, Ty, copy_type, function_of};
@@ -13,7 +13,7 @@ use sqlite_items::{Boxed, Items};
 use std::alloc::{AllocError, Global};
 
 /// The type of the function that is called: the callee is one, or a pointer to one.
-#[tactic(auto, unfolding(crate::specs::Rules::called_type, crate::specs::Operators::value_type, crate::specs::Operators::type_of, c_types::specs::Kinds::decay, c_types::specs::Kinds::target_of, c_types::specs::Kinds::function_of))]
+#[tactic(auto, unfolding(crate::specs::Rules::called_type, c_operators::specs::Operators::value_type, c_operators::specs::Operators::type_of, c_types::specs::Kinds::decay, c_types::specs::Kinds::target_of, c_types::specs::Kinds::function_of))]
 fn called_type(callee: &TypedExpr) -> Option<&FnTy>
     ensures { option_copied result ≡ spec.called_type callee.now }
 {
@@ -48,7 +48,7 @@ fn all_convert(alloc: Global, arguments: &[TypedExpr], params: &[Ty]) -> Result<
 /// # Errors
 ///
 /// `Broken`, at the first rule that is broken. `Memory`, where no memory is left.
-#[tactic(auto, unfolding(crate::specs::Rules::call, crate::specs::Operators::typed))]
+#[tactic(auto, unfolding(crate::specs::Rules::call, c_operators::specs::Operators::typed))]
 pub fn call(
     alloc: Global,
     _world: &World,

@@ -5,9 +5,8 @@ ghost use Rattle.c_rules.specs.Rules as spec;
 ghost use Rattle.c_scope.specs.Walks.{Walks};
 ghost use Rattle.c_typed.specs.declared.expression.TypedForm.TheVariants as form;
 
-use crate::constants::{of_binary, of_conditional};
-use crate::conversions::{boxed_pair, has_units, is_integer_value, is_scalar_value, pointed};
-use crate::operators::{chosen, operated};
+use crate::operands::{boxed_pair, pointed};
+use c_operators::{chosen, has_units, is_integer_value, is_scalar_value, of_binary, of_conditional, operated};
 use c_scope::{Failure, Rule, World, count, found};
 use c_tree::BinaryOperator;
 use c_typed::{Constant, TypedExpr, TypedForm};
@@ -17,7 +16,7 @@ use sqlite_items::{Boxed, Items};
 use std::alloc::{AllocError, Global};
 
 /// A number.
-#[tactic(auto, unfolding(crate::specs::Rules::number, crate::specs::Operators::typed))]
+#[tactic(auto, unfolding(crate::specs::Rules::number, c_operators::specs::Operators::typed))]
 pub fn number(_world: &World, value: i64) -> Result<TypedExpr, Failure>
     ensures { Walks (spec.number value _world.now) result _world.now }
 {
@@ -33,7 +32,7 @@ pub fn number(_world: &World, value: i64) -> Result<TypedExpr, Failure>
 /// # Errors
 ///
 /// `Memory`, where no memory is left or there are too many strings to be counted.
-#[tactic(auto, unfolding(crate::specs::Rules::text, crate::specs::Operators::typed))]
+#[tactic(auto, unfolding(crate::specs::Rules::text, c_operators::specs::Operators::typed))]
 pub fn text(alloc: Global, world: &mut World, bytes: &[u8]) -> Result<TypedExpr, Failure>
     ensures { Walks (spec.text bytes.now world.old) result world.new }
 {
@@ -63,7 +62,7 @@ fn operand_rule(operator: BinaryOperator) -> Rule
 /// # Errors
 ///
 /// `Broken`, at the first rule that is broken. `Memory`, where no memory is left.
-#[tactic(auto, unfolding(crate::specs::Rules::binary, crate::specs::Operators::typed, crate::specs::Operators::constant_of))]
+#[tactic(auto, unfolding(crate::specs::Rules::binary, c_operators::specs::Operators::typed, c_operators::specs::Operators::constant_of))]
 pub fn binary(
     alloc: Global,
     world: &World,
@@ -91,7 +90,7 @@ pub fn binary(
 /// # Errors
 ///
 /// `Broken`, at the first rule that is broken. `Memory`, where no memory is left.
-#[tactic(auto, unfolding(crate::specs::Rules::conditional, crate::specs::Operators::typed, crate::specs::Operators::constant_of))]
+#[tactic(auto, unfolding(crate::specs::Rules::conditional, c_operators::specs::Operators::typed, c_operators::specs::Operators::constant_of))]
 pub fn conditional(
     alloc: Global,
     _world: &World,
@@ -149,7 +148,7 @@ fn conditional_form(
 /// # Errors
 ///
 /// `Broken`, at the first rule that is broken. `Memory`, where no memory is left.
-#[tactic(auto, unfolding(crate::specs::Rules::index, crate::specs::Operators::typed))]
+#[tactic(auto, unfolding(crate::specs::Rules::index, c_operators::specs::Operators::typed))]
 pub fn index(alloc: Global, world: &World, x: TypedExpr, i: TypedExpr) -> Result<TypedExpr, Failure>
     ensures { Walks (spec.index x i world.now) result world.now }
 {

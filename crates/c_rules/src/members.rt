@@ -5,8 +5,7 @@ ghost use Rattle.std.specs.Option.{option_copied};
 ghost use Rattle.c_rules.specs.Rules as spec;
 ghost use Rattle.c_scope.specs.Walks.{Walks};
 
-use crate::conversions::{has_units, value_type};
-use crate::lvalues::is_lvalue;
+use c_operators::{has_units, is_lvalue, value_type};
 use c_scope::{Failure, Rule, World, found};
 use c_typed::{Constant, TypedExpr, TypedForm};
 use c_types::{Name, StructTable, Ty, copy_name, copy_type, struct_of, target_of};
@@ -46,7 +45,7 @@ fn member_at(structs: &StructTable, s: u32, place: u32) -> Option<&Ty>
 /// # Errors
 ///
 /// `Broken`, at the first rule that is broken. `Memory`, where no memory is left.
-#[tactic(auto, unfolding(crate::specs::Rules::member, crate::specs::Operators::typed))]
+#[tactic(auto, unfolding(crate::specs::Rules::member, c_operators::specs::Operators::typed))]
 pub fn member(alloc: Global, world: &World, x: TypedExpr, name: &Name) -> Result<TypedExpr, Failure>
     ensures { Walks (spec.member x name.now world.now) result world.now }
 {
@@ -60,7 +59,7 @@ pub fn member(alloc: Global, world: &World, x: TypedExpr, name: &Name) -> Result
 }
 
 /// What `.` asks, and the member's number and type.
-#[tactic(auto, unfolding(crate::specs::Rules::member_found, crate::specs::Operators::type_of))]
+#[tactic(auto, unfolding(crate::specs::Rules::member_found, c_operators::specs::Operators::type_of))]
 fn member_found(world: &World, x: &TypedExpr, name: &Name) -> Result<(u32, Ty), Failure>
     ensures { Walks (spec.member_found x.now name.now world.now) result world.now }
 {
@@ -88,7 +87,7 @@ fn boxed_with(
 /// # Errors
 ///
 /// `Broken`, at the first rule that is broken. `Memory`, where no memory is left.
-#[tactic(auto, unfolding(crate::specs::Rules::arrow, crate::specs::Operators::typed))]
+#[tactic(auto, unfolding(crate::specs::Rules::arrow, c_operators::specs::Operators::typed))]
 pub fn arrow(alloc: Global, world: &World, x: TypedExpr, name: &Name) -> Result<TypedExpr, Failure>
     ensures { Walks (spec.arrow x name.now world.now) result world.now }
 {

@@ -63,7 +63,7 @@ fn variable(alloc: Global, world: &World, name: &Name) -> Result<TypedExpr, Fail
 }
 
 /// A name with what it stands for and its type.
-#[tactic(auto, unfolding(crate::specs::Rules::named, crate::specs::Operators::typed))]
+#[tactic(auto, unfolding(crate::specs::Rules::named, c_operators::specs::Operators::typed))]
 fn named(alloc: Global, name: &Name, entity: Entity, ty: Ty) -> Result<TypedExpr, AllocError>
     ensures { IfOk result (λ e. e ≡ spec.named name.now entity ty) }
 {

@@ -5,8 +5,7 @@ ghost use Rattle.c_rules.specs.Rules as spec;
 ghost use Rattle.c_scope.specs.Walks.{Walks};
 ghost use Rattle.c_typed.specs.declared.expression.TypedForm.TheVariants as form;
 
-use crate::constants::of_cast;
-use crate::conversions::{has_units, is_scalar_value};
+use c_operators::{has_units, is_scalar_value, of_cast};
 use c_scope::{Failure, Rule, World, found, test};
 use c_typed::{Constant, TypedExpr, TypedForm, TypedTypeWord};
 use c_types::{Ty, copy_type, is_scalar, is_void};
@@ -18,7 +17,7 @@ use std::alloc::{AllocError, Global};
 /// # Errors
 ///
 /// `Broken`, at the first rule that is broken. `Memory`, where no memory is left.
-#[tactic(auto, unfolding(crate::specs::Rules::size_of_value, crate::specs::Operators::typed, crate::specs::Operators::type_of))]
+#[tactic(auto, unfolding(crate::specs::Rules::size_of_value, c_operators::specs::Operators::typed, c_operators::specs::Operators::type_of))]
 pub fn size_of_value(alloc: Global, world: &World, x: TypedExpr) -> Result<TypedExpr, Failure>
     ensures { Walks (spec.size_of_value x world.now) result world.now }
 {
@@ -35,7 +34,7 @@ pub fn size_of_value(alloc: Global, world: &World, x: TypedExpr) -> Result<Typed
 /// # Errors
 ///
 /// `Broken`, at the first rule that is broken. `Memory`, where no memory is left.
-#[tactic(auto, unfolding(crate::specs::Rules::size_of_type, crate::specs::Operators::typed))]
+#[tactic(auto, unfolding(crate::specs::Rules::size_of_type, c_operators::specs::Operators::typed))]
 pub fn size_of_type(alloc: Global, world: &World, word: TypedTypeWord) -> Result<TypedExpr, Failure>
     ensures { Walks (spec.size_of_type word world.now) result world.now }
 {
@@ -70,7 +69,7 @@ fn cast_form(alloc: Global, word: TypedTypeWord, x: TypedExpr) -> Result<TypedFo
 /// # Errors
 ///
 /// `Broken`, at the first rule that is broken. `Memory`, where no memory is left.
-#[tactic(auto, unfolding(crate::specs::Rules::cast, crate::specs::Operators::typed, crate::specs::Operators::constant_of))]
+#[tactic(auto, unfolding(crate::specs::Rules::cast, c_operators::specs::Operators::typed, c_operators::specs::Operators::constant_of))]
 pub fn cast(
     alloc: Global,
     _world: &World,

@@ -4,9 +4,8 @@ ghost use Rattle.std.specs.Prelude.{◌≡◌, true, IfOk, OnOk};
 ghost use Rattle.c_rules.specs.Rules as spec;
 ghost use Rattle.c_scope.specs.Walks.{Walks};
 
-use crate::constants::of_unary;
-use crate::conversions::{has_units, is_integer_value, is_scalar_value, pointed};
-use crate::lvalues::is_lvalue;
+use crate::operands::{pointed};
+use c_operators::{has_units, is_integer_value, is_lvalue, is_scalar_value, of_unary};
 use c_scope::{Failure, Rule, World, test};
 use c_tree::UnaryOperator;
 use c_typed::{Constant, Entity, Local, TypedExpr, TypedForm};
@@ -40,7 +39,7 @@ pub fn unary(
 }
 
 /// `&`
-#[tactic(auto, unfolding(crate::specs::Rules::address, crate::specs::Operators::typed, crate::specs::Operators::type_of))]
+#[tactic(auto, unfolding(crate::specs::Rules::address, c_operators::specs::Operators::typed, c_operators::specs::Operators::type_of))]
 fn address(alloc: Global, world: &mut World, x: TypedExpr) -> Result<TypedExpr, Failure>
     ensures { Walks (spec.address x world.old) result world.new }
 {
@@ -55,7 +54,7 @@ fn address(alloc: Global, world: &mut World, x: TypedExpr) -> Result<TypedExpr, 
 }
 
 /// Whether it is a function or an lvalue.
-#[tactic(auto, unfolding(crate::specs::Rules::has_address, crate::specs::Operators::type_of))]
+#[tactic(auto, unfolding(crate::specs::Rules::has_address, c_operators::specs::Operators::type_of))]
 fn has_address(x: &TypedExpr) -> bool
     ensures { result ≡ spec.has_address x.now }
 {
@@ -63,7 +62,7 @@ fn has_address(x: &TypedExpr) -> bool
 }
 
 /// A local that is itself the operand of `&` becomes a local whose address is taken.
-#[tactic(auto, unfolding(crate::specs::Rules::mark_addressed, crate::specs::Operators::form_of))]
+#[tactic(auto, unfolding(crate::specs::Rules::mark_addressed, c_operators::specs::Operators::form_of))]
 fn mark_addressed(alloc: Global, world: &mut World, x: &TypedExpr) -> Result<(), Failure>
     ensures { Walks (spec.mark_addressed x.now world.old) result world.new }
 {
@@ -102,7 +101,7 @@ fn addressed(alloc: Global, local: &Local) -> Result<Local, AllocError>
 }
 
 /// `*`
-#[tactic(auto, unfolding(crate::specs::Rules::dereference, crate::specs::Operators::typed))]
+#[tactic(auto, unfolding(crate::specs::Rules::dereference, c_operators::specs::Operators::typed))]
 fn dereference(alloc: Global, world: &World, x: TypedExpr) -> Result<TypedExpr, Failure>
     ensures { Walks (spec.dereference x world.now) result world.now }
 {
@@ -128,7 +127,7 @@ fn dereferenced(alloc: Global, world: &World, x: &TypedExpr) -> Result<Ty, Failu
 }
 
 /// `-` and `~`
-#[tactic(auto, unfolding(crate::specs::Rules::arithmetic, crate::specs::Operators::typed, crate::specs::Operators::constant_of))]
+#[tactic(auto, unfolding(crate::specs::Rules::arithmetic, c_operators::specs::Operators::typed, c_operators::specs::Operators::constant_of))]
 fn arithmetic(
     alloc: Global,
     _world: &World,
@@ -147,7 +146,7 @@ fn arithmetic(
 }
 
 /// `!`
-#[tactic(auto, unfolding(crate::specs::Rules::negation, crate::specs::Operators::typed, crate::specs::Operators::constant_of))]
+#[tactic(auto, unfolding(crate::specs::Rules::negation, c_operators::specs::Operators::typed, c_operators::specs::Operators::constant_of))]
 fn negation(alloc: Global, _world: &World, x: TypedExpr) -> Result<TypedExpr, Failure>
     ensures { Walks (spec.negation x _world.now) result _world.now }
 {

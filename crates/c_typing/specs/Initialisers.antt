@@ -17,7 +17,7 @@ use Rattle.c_typed.specs.declared.statement.TypedInit.{TypedInit}
 use Rattle.c_typed.specs.declared.statement.TypedInit.TheVariants as init
 use Rattle.c_scope.specs.declared.rule.Rule.TheVariants as broken
 use Rattle.c_scope.specs.Walk.{Walk, ◌>>=◌, ◌>>◌, each, pure, rule, world}
-use Rattle.c_rules.specs.Operators.{converts, takes_value}
+use Rattle.c_operators.specs.Operators.{converts, takes_value}
 use Rattle.c_rules.specs.declared.place.Place.TheVariants.{Value}
 use Rattle.c_expr_typing.specs.Trees.{typed_expr}
 use Rattle.c_typing.specs.Leaves.{is_constant_leaf}

@@ -22,7 +22,7 @@ use Rattle.c_scope.specs.declared.rule.Rule.TheVariants as broken
 use Rattle.c_scope.specs.Scopes.{within}
 use Rattle.c_scope.specs.Walk.{Walk, ◌>>=◌, ◌>>◌, each, maybe, pure, rule}
 use Rattle.c_rules.specs.declared.place.Place.TheVariants.{Value}
-use Rattle.c_rules.specs.Operators.{converts, is_scalar_value}
+use Rattle.c_operators.specs.Operators.{converts, is_scalar_value}
 use Rattle.c_expr_typing.specs.Trees.{typed_expr}
 use Rattle.c_typing.specs.Declarations.{typed_decl}
 

@@ -3,7 +3,6 @@
 ghost use Rattle.std.specs.Prelude.{◌≡◌, ◌+◌, Some, length, map, IfOk};
 ghost use Rattle.std.specs.Option.{option_copied};
 ghost use Rattle.c_types.specs.Kinds.{function_of};
-ghost use Rattle.c_types.specs.Units as units;
 ghost use Rattle.c_scope.specs.Walk.{each};
 ghost use Rattle.c_scope.specs.Walks.{Walks};
 ghost use Rattle.c_typing.specs.Declarations as spec;
@@ -11,10 +10,11 @@ ghost use Rattle.c_typing.specs.Declarations as spec;
 use crate::initialisers::{initialiser, text_of};
 use c_expr_typing::{LayeredDeclarator, declarator, spec};
 use c_layers::{CheckedShape, Shape, checked_shape, limited};
+use c_operators::has_units;
 use c_scope::{Failure, Meaning, Rule, World, declare_function, declare_variable, found, test};
 use c_tree::{Decl, Declarator, Init, InitDeclarator};
 use c_typed::{Declared, Entity, TypedDecl, TypedInit, TypedInitDeclarator};
-use c_types::{Name, StructTable, Ty, copy_type, is_char};
+use c_types::{Name, Ty, copy_type, is_char};
 use shared::Shared;
 use sqlite_items::Items;
 use std::alloc::{AllocError, Global};
@@ -96,14 +96,6 @@ fn type_rules(world: &World, is_function: bool, ty: &Ty, fits: bool) -> Result<(
         return Err(Failure::Broken(Rule::Unsized));
     }
     test(Rule::Form, fits)
-}
-
-/// Whether a type has units that aren't refused.
-#[tactic(auto, unfolding(c_types::specs::Units::has_units))]
-fn has_units(structs: &StructTable, ty: &Ty) -> bool
-    ensures { result ≡ units.has_units structs.now ty.now }
-{
-    structs.units(ty).is_ok()
 }
 
 /// The type of a declared name of this shape.

@@ -7,7 +7,8 @@ ghost use Rattle.c_typing.specs.Statements as spec;
 
 use crate::declarations::declaration;
 use c_expr_typing::expression;
-use c_rules::{Place, converts, is_scalar_value};
+use c_operators::{converts, is_scalar_value};
+use c_rules::Place;
 use c_scope::{Failure, Rule, World, test};
 use c_tree::{ForInit, FullExpr};
 use c_typed::{TypedForInit, TypedFullExpr, TypedStmt};

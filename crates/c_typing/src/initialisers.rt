@@ -9,7 +9,8 @@ ghost use Rattle.c_typing.specs.Initialisers.{typed_init};
 
 use crate::leaves::is_constant_leaf;
 use c_expr_typing::expression;
-use c_rules::{Place, converts, takes_value};
+use c_operators::{converts, takes_value};
+use c_rules::Place;
 use c_scope::{Failure, Rule, World, test};
 use c_tree::{Expr, Init};
 use c_typed::{TypedExpr, TypedInit};

@@ -1,7 +1,7 @@
 //! Which expressions are integer constant expressions, level by level, and their values.
 
 ghost use Rattle.std.specs.Prelude.{◌≡◌};
-ghost use Rattle.c_rules.specs.Constants as spec;
+ghost use Rattle.c_operators.specs.Constants as spec;
 ghost use Rattle.c_types.specs.declared.ty.Ty.{out-Ty};
 
 use c_const::{as_char, complemented, computed, negated, truth};
@@ -10,7 +10,7 @@ use c_typed::Constant;
 use c_types::Ty;
 
 /// What a binary operator makes of two constants.
-pub(crate) fn of_binary(operator: BinaryOperator, a: Constant, b: Constant) -> Constant
+pub fn of_binary(operator: BinaryOperator, a: Constant, b: Constant) -> Constant
     ensures { result ≡ spec.of_binary operator a b }
 {
     match operator {
@@ -69,7 +69,7 @@ fn of_or(a: Constant, b: Constant) -> Constant
 }
 
 /// What a unary operator makes of a constant.
-pub(crate) fn of_unary(operator: UnaryOperator, c: Constant) -> Constant
+pub fn of_unary(operator: UnaryOperator, c: Constant) -> Constant
     ensures { result ≡ spec.of_unary operator c }
 {
     match (operator, c) {
@@ -82,7 +82,7 @@ pub(crate) fn of_unary(operator: UnaryOperator, c: Constant) -> Constant
 }
 
 /// What `?:` makes of three constants: only the arm that is chosen is evaluated.
-pub(crate) fn of_conditional(c: Constant, a: Constant, b: Constant) -> Constant
+pub fn of_conditional(c: Constant, a: Constant, b: Constant) -> Constant
     ensures { result ≡ spec.of_conditional c a b }
 {
     match (c, a, b) {
@@ -96,7 +96,7 @@ pub(crate) fn of_conditional(c: Constant, a: Constant, b: Constant) -> Constant
 }
 
 /// What a cast to this type makes of a constant.
-pub(crate) fn of_cast(to: &Ty, c: Constant) -> Constant
+pub fn of_cast(to: &Ty, c: Constant) -> Constant
     ensures { result ≡ spec.of_cast (out-Ty to.now) c }
 {
     match (to, c) {

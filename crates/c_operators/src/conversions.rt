@@ -1,18 +1,14 @@
 //! What converts to what.
 
 ghost use Rattle.std.specs.Prelude.{◌≡◌, IfOk};
-ghost use Rattle.c_rules.specs.Operators as spec;
-ghost use Rattle.c_rules.specs.Rules.{pointed};
-ghost use Rattle.c_scope.specs.Walks.{Walks};
+ghost use Rattle.c_operators.specs.Operators as spec;
 ghost use Rattle.c_types.specs.Units as units;
 
-use c_scope::{Failure, Rule, World};
 use c_typed::{Constant, TypedExpr};
 use c_types::{
     StructTable, Ty, copy_type, decay, is_integer, is_object_pointer, is_pointer, is_scalar,
     is_struct, is_void_pointer, same, target_of,
 };
-use sqlite_items::Boxed;
 use std::alloc::{AllocError, Global};
 
 /// The type of an expression's value: an array or a function decays.
@@ -40,7 +36,7 @@ pub fn is_scalar_value(e: &TypedExpr) -> bool
 
 /// Whether an expression's value is an integer.
 #[tactic(auto, unfolding(crate::specs::Operators::is_integer_value, crate::specs::Operators::value_type, crate::specs::Operators::type_of, c_types::specs::Kinds::is_integer, c_types::specs::Kinds::decay))]
-pub(crate) fn is_integer_value(e: &TypedExpr) -> bool
+pub fn is_integer_value(e: &TypedExpr) -> bool
     ensures { result ≡ spec.is_integer_value e.now }
 {
     matches!(&e.ty, Ty::Int | Ty::Char)
@@ -48,7 +44,7 @@ pub(crate) fn is_integer_value(e: &TypedExpr) -> bool
 
 /// Whether it is a pointer that can be counted up and indexed: its target has units.
 #[tactic(auto, unfolding(crate::specs::Operators::is_counted))]
-pub(crate) fn is_counted(structs: &StructTable, ty: &Ty) -> bool
+pub fn is_counted(structs: &StructTable, ty: &Ty) -> bool
     ensures { result ≡ spec.is_counted structs.now ty.now }
 {
     match target_of(ty) {
@@ -59,7 +55,7 @@ pub(crate) fn is_counted(structs: &StructTable, ty: &Ty) -> bool
 
 /// Whether a type has units that aren't refused.
 #[tactic(auto, unfolding(c_types::specs::Units::has_units))]
-pub(crate) fn has_units(structs: &StructTable, ty: &Ty) -> bool
+pub fn has_units(structs: &StructTable, ty: &Ty) -> bool
     ensures { result ≡ units.has_units structs.now ty.now }
 {
     structs.units(ty).is_ok()
@@ -102,32 +98,4 @@ pub fn takes_value(ty: &Ty) -> bool
     ensures { result ≡ spec.takes_value ty.now }
 {
     is_scalar(ty) || is_struct(ty)
-}
-
-/// What an expression's value points to.
-///
-/// # Errors
-///
-/// `Broken`, of `Pointer`, exactly where it is no pointer. `Memory`, where no memory is left.
-#[tactic(auto, unfolding(crate::specs::Rules::pointed))]
-pub(crate) fn pointed(alloc: Global, _world: &World, x: &TypedExpr) -> Result<Ty, Failure>
-    ensures { Walks (pointed x.now _world.now) result _world.now }
-{
-    match target_of(&value_type(alloc, x)?) {
-        Some(target) => Ok(copy_type(target)?),
-        None => Err(Failure::Broken(Rule::Pointer)),
-    }
-}
-
-/// Two operands on the heap.
-pub(crate) fn boxed_pair(
-    alloc: Global,
-    x: TypedExpr,
-    y: TypedExpr,
-) -> Result<(Boxed<TypedExpr>, Boxed<TypedExpr>), AllocError>
-    ensures { IfOk result (λ both. both ≡ (x, y)) }
-{
-    let x = Boxed::new(alloc, x)?;
-    let y = Boxed::new(alloc, y)?;
-    Ok((x, y))
 }

@@ -1,7 +1,7 @@
 //! What binary operators and `?:` take and give.
 
 ghost use Rattle.std.specs.Prelude.{◌≡◌, IfOk};
-ghost use Rattle.c_rules.specs.Operators as spec;
+ghost use Rattle.c_operators.specs.Operators as spec;
 
 use crate::conversions::{is_counted, is_null, value_type};
 use c_tree::BinaryOperator;

@@ -1,7 +1,7 @@
 //! Which expressions are lvalues.
 
 ghost use Rattle.std.specs.Prelude.{◌≡◌};
-ghost use Rattle.c_rules.specs.Operators as spec;
+ghost use Rattle.c_operators.specs.Operators as spec;
 
 use c_tree::UnaryOperator;
 use c_typed::{Entity, TypedExpr, TypedForm};
