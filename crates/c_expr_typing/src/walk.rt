@@ -89,27 +89,27 @@ fn expression_node(
         }
         Expr::Cast(word, a) => {
             let (word, a) = cast_parts(alloc, world, word.get(), a.get())?;
-            cast(alloc, world, word, a)
+            cast(world, word, a)
         }
         Expr::PreIncrement(a) => {
-            let a = expression(alloc, world, a.get(), Place::Value)?;
+            let a = operand(alloc, world, a.get(), Place::Value)?;
             pre_increment(alloc, world, a)
         }
         Expr::PreDecrement(a) => {
-            let a = expression(alloc, world, a.get(), Place::Value)?;
+            let a = operand(alloc, world, a.get(), Place::Value)?;
             pre_decrement(alloc, world, a)
         }
         Expr::Unary(operator, a) => {
-            let a = expression(alloc, world, a.get(), Place::Value)?;
+            let a = operand(alloc, world, a.get(), Place::Value)?;
             unary(alloc, world, *operator, a)
         }
         Expr::SizeofExpr(a) => {
-            let a = expression(alloc, world, a.get(), Place::Value)?;
-            size_of_value(alloc, world, a)
+            let a = operand(alloc, world, a.get(), Place::Value)?;
+            size_of_value(world, a)
         }
         Expr::SizeofType(word) => {
-            let word = type_word(alloc, world, word.get())?;
-            size_of_type(alloc, world, word)
+            let word = boxed_word(alloc, world, word.get())?;
+            size_of_type(world, word)
         }
         Expr::Index(a, i) => {
             let (a, i) = operands(alloc, world, a.get(), i.get())?;
@@ -117,25 +117,39 @@ fn expression_node(
         }
         Expr::Call(callee, given) => called(alloc, world, callee.get(), given),
         Expr::Member(a, name) => {
-            let a = expression(alloc, world, a.get(), Place::Value)?;
+            let a = operand(alloc, world, a.get(), Place::Value)?;
             member(alloc, world, a, name)
         }
         Expr::Arrow(a, name) => {
-            let a = expression(alloc, world, a.get(), Place::Value)?;
+            let a = operand(alloc, world, a.get(), Place::Value)?;
             arrow(alloc, world, a, name)
         }
         Expr::PostIncrement(a) => {
-            let a = expression(alloc, world, a.get(), Place::Value)?;
+            let a = operand(alloc, world, a.get(), Place::Value)?;
             post_increment(alloc, world, a)
         }
         Expr::PostDecrement(a) => {
-            let a = expression(alloc, world, a.get(), Place::Value)?;
+            let a = operand(alloc, world, a.get(), Place::Value)?;
             post_decrement(alloc, world, a)
         }
         Expr::Identifier(name) => identifier(alloc, world, name, place),
         Expr::Number(value) => number(world, *value),
         Expr::Text(bytes) => text(alloc, world, bytes.as_slice()),
     }
+}
+
+/// An operand, on the heap.
+#[cycle(walk)]
+fn operand(
+    alloc: Global,
+    world: &mut World,
+    a: &Expr,
+    place: Place,
+) -> Result<Boxed<TypedExpr>, Failure>
+    ensures { Walks (walked.expr a.now place world.old) result world.new }
+{
+    let x = expression(alloc, world, a, place)?;
+    Ok(Boxed::new(alloc, x)?)
 }
 
 /// Two operands.
@@ -145,11 +159,11 @@ fn operands(
     world: &mut World,
     a: &Expr,
     b: &Expr,
-) -> Result<(TypedExpr, TypedExpr), Failure>
+) -> Result<(Boxed<TypedExpr>, Boxed<TypedExpr>), Failure>
     ensures { Walks (tree.operands (walked.expr a.now) (walked.expr b.now) world.old) result world.new }
 {
-    let x = expression(alloc, world, a, Place::Value)?;
-    let y = expression(alloc, world, b, Place::Value)?;
+    let x = operand(alloc, world, a, Place::Value)?;
+    let y = operand(alloc, world, b, Place::Value)?;
     Ok((x, y))
 }
 
@@ -161,11 +175,11 @@ fn arms(
     c: &Expr,
     a: &Expr,
     b: &Expr,
-) -> Result<(TypedExpr, TypedExpr, TypedExpr), Failure>
+) -> Result<(Boxed<TypedExpr>, Boxed<TypedExpr>, Boxed<TypedExpr>), Failure>
     ensures { Walks (tree.arms (walked.expr c.now) (walked.expr a.now) (walked.expr b.now) world.old)
         result world.new }
 {
-    let c = expression(alloc, world, c, Place::Value)?;
+    let c = operand(alloc, world, c, Place::Value)?;
     let (x, y) = operands(alloc, world, a, b)?;
     Ok((c, x, y))
 }
@@ -177,12 +191,12 @@ fn cast_parts(
     world: &mut World,
     word: &TypeWord,
     a: &Expr,
-) -> Result<(TypedTypeWord, TypedExpr), Failure>
+) -> Result<(Boxed<TypedTypeWord>, Boxed<TypedExpr>), Failure>
     ensures { Walks (tree.cast_parts (walked.type_word word.now) (walked.expr a.now) world.old)
         result world.new }
 {
-    let word = type_word(alloc, world, word)?;
-    let a = expression(alloc, world, a, Place::Value)?;
+    let word = boxed_word(alloc, world, word)?;
+    let a = operand(alloc, world, a, Place::Value)?;
     Ok((word, a))
 }
 
@@ -197,7 +211,7 @@ fn called(
     ensures { Walks (tree.called (walked.expr callee.now) (map walked.expr given.now) world.old)
         result world.new }
 {
-    let callee = expression(alloc, world, callee, Place::Callee)?;
+    let callee = operand(alloc, world, callee, Place::Callee)?;
     let given = arguments(alloc, world, given.as_slice())?;
     call(alloc, world, callee, given)
 }
@@ -213,6 +227,19 @@ fn arguments(alloc: Global, world: &mut World, all: &[Expr]) -> Result<Items<Typ
         found.push(expression(alloc, world, argument, Place::Value)?)?;
     }
     Ok(found)
+}
+
+/// A type word, on the heap.
+#[cycle(walk)]
+fn boxed_word(
+    alloc: Global,
+    world: &mut World,
+    word: &TypeWord,
+) -> Result<Boxed<TypedTypeWord>, Failure>
+    ensures { Walks (walked.type_word word.now world.old) result world.new }
+{
+    let word = type_word(alloc, world, word)?;
+    Ok(Boxed::new(alloc, word)?)
 }
 
 /// A type word.

@@ -7,7 +7,6 @@ ghost use Rattle.c_tree.specs.declared.operator.BinaryOperator.TheVariants as op
 ghost use Rattle.c_typed.specs.declared.expression.TypedForm.TheVariants as form;
 ghost use Rattle.c_scope.specs.Walks.{Walks};
 
-use crate::operands::{boxed_pair};
 use c_operators::{converts, is_assignable, operated, takes_value, type_converts};
 use c_scope::{Failure, Rule, World, found};
 use c_tree::{AssignOperator, BinaryOperator};
@@ -25,14 +24,13 @@ use std::alloc::{AllocError, Global};
 pub fn assignment(
     alloc: Global,
     world: &World,
-    x: TypedExpr,
+    x: Boxed<TypedExpr>,
     operator: AssignOperator,
-    y: TypedExpr,
+    y: Boxed<TypedExpr>,
 ) -> Result<TypedExpr, Failure>
     ensures { Walks (spec.assignment x operator y world.now) result world.now }
 {
-    let ty = assigned(alloc, world, &x, operator, &y)?;
-    let (x, y) = boxed_pair(alloc, x, y)?;
+    let ty = assigned(alloc, world, x.get(), operator, y.get())?;
     Ok(TypedExpr {
         form: TypedForm::Assign(x, operator, y),
         ty,
@@ -146,11 +144,10 @@ fn stepped(
 ///
 /// `Broken`, at the first rule that is broken. `Memory`, where no memory is left.
 #[tactic(auto, unfolding(crate::specs::Rules::stepped, c_operators::specs::Operators::typed))]
-pub fn pre_increment(alloc: Global, world: &World, x: TypedExpr) -> Result<TypedExpr, Failure>
+pub fn pre_increment(alloc: Global, world: &World, x: Boxed<TypedExpr>) -> Result<TypedExpr, Failure>
     ensures { Walks (spec.stepped op.Add form.PreIncrement x world.now) result world.now }
 {
-    let ty = stepped(alloc, world, BinaryOperator::Add, &x)?;
-    let x = Boxed::new(alloc, x)?;
+    let ty = stepped(alloc, world, BinaryOperator::Add, x.get())?;
     Ok(TypedExpr {
         form: TypedForm::PreIncrement(x),
         ty,
@@ -164,11 +161,10 @@ pub fn pre_increment(alloc: Global, world: &World, x: TypedExpr) -> Result<Typed
 ///
 /// `Broken`, at the first rule that is broken. `Memory`, where no memory is left.
 #[tactic(auto, unfolding(crate::specs::Rules::stepped, c_operators::specs::Operators::typed))]
-pub fn pre_decrement(alloc: Global, world: &World, x: TypedExpr) -> Result<TypedExpr, Failure>
+pub fn pre_decrement(alloc: Global, world: &World, x: Boxed<TypedExpr>) -> Result<TypedExpr, Failure>
     ensures { Walks (spec.stepped op.Subtract form.PreDecrement x world.now) result world.now }
 {
-    let ty = stepped(alloc, world, BinaryOperator::Subtract, &x)?;
-    let x = Boxed::new(alloc, x)?;
+    let ty = stepped(alloc, world, BinaryOperator::Subtract, x.get())?;
     Ok(TypedExpr {
         form: TypedForm::PreDecrement(x),
         ty,
@@ -182,11 +178,10 @@ pub fn pre_decrement(alloc: Global, world: &World, x: TypedExpr) -> Result<Typed
 ///
 /// `Broken`, at the first rule that is broken. `Memory`, where no memory is left.
 #[tactic(auto, unfolding(crate::specs::Rules::stepped, c_operators::specs::Operators::typed))]
-pub fn post_increment(alloc: Global, world: &World, x: TypedExpr) -> Result<TypedExpr, Failure>
+pub fn post_increment(alloc: Global, world: &World, x: Boxed<TypedExpr>) -> Result<TypedExpr, Failure>
     ensures { Walks (spec.stepped op.Add form.PostIncrement x world.now) result world.now }
 {
-    let ty = stepped(alloc, world, BinaryOperator::Add, &x)?;
-    let x = Boxed::new(alloc, x)?;
+    let ty = stepped(alloc, world, BinaryOperator::Add, x.get())?;
     Ok(TypedExpr {
         form: TypedForm::PostIncrement(x),
         ty,
@@ -200,11 +195,10 @@ pub fn post_increment(alloc: Global, world: &World, x: TypedExpr) -> Result<Type
 ///
 /// `Broken`, at the first rule that is broken. `Memory`, where no memory is left.
 #[tactic(auto, unfolding(crate::specs::Rules::stepped, c_operators::specs::Operators::typed))]
-pub fn post_decrement(alloc: Global, world: &World, x: TypedExpr) -> Result<TypedExpr, Failure>
+pub fn post_decrement(alloc: Global, world: &World, x: Boxed<TypedExpr>) -> Result<TypedExpr, Failure>
     ensures { Walks (spec.stepped op.Subtract form.PostDecrement x world.now) result world.now }
 {
-    let ty = stepped(alloc, world, BinaryOperator::Subtract, &x)?;
-    let x = Boxed::new(alloc, x)?;
+    let ty = stepped(alloc, world, BinaryOperator::Subtract, x.get())?;
     Ok(TypedExpr {
         form: TypedForm::PostDecrement(x),
         ty,

@@ -5,7 +5,7 @@ ghost use Rattle.std.specs.Option.{option_copied};
 ghost use Rattle.c_rules.specs.Rules as spec;
 ghost use Rattle.c_scope.specs.Walks.{Walks};
 
-use c_operators::{converts};
+use c_operators::converts;
 use c_scope::{Failure, Rule, World, found};
 use c_typed::{Constant, TypedExpr, TypedForm};
 use c_types::{FnTy, Ty, copy_type, function_of};
@@ -52,13 +52,12 @@ fn all_convert(alloc: Global, arguments: &[TypedExpr], params: &[Ty]) -> Result<
 pub fn call(
     alloc: Global,
     _world: &World,
-    callee: TypedExpr,
+    callee: Boxed<TypedExpr>,
     arguments: Items<TypedExpr>,
 ) -> Result<TypedExpr, Failure>
     ensures { Walks (spec.call callee arguments _world.now) result _world.now }
 {
-    let ty = called(alloc, _world, &callee, arguments.as_slice())?;
-    let callee = Boxed::new(alloc, callee)?;
+    let ty = called(alloc, _world, callee.get(), arguments.as_slice())?;
     Ok(TypedExpr {
         form: TypedForm::Call(callee, arguments),
         ty,

@@ -1,11 +1,10 @@
 //! Numbers, strings, binary operators, `?:` and indices.
 
-ghost use Rattle.std.specs.Prelude.{◌≡◌, IfOk};
+ghost use Rattle.std.specs.Prelude.{◌≡◌};
 ghost use Rattle.c_rules.specs.Rules as spec;
 ghost use Rattle.c_scope.specs.Walks.{Walks};
-ghost use Rattle.c_typed.specs.declared.expression.TypedForm.TheVariants as form;
 
-use crate::operands::{boxed_pair, pointed};
+use crate::operands::pointed;
 use c_operators::{chosen, has_units, is_integer_value, is_scalar_value, of_binary, of_conditional, operated};
 use c_scope::{Failure, Rule, World, count, found};
 use c_tree::BinaryOperator;
@@ -13,7 +12,7 @@ use c_typed::{Constant, TypedExpr, TypedForm};
 use c_types::Ty;
 use shared::Shared;
 use sqlite_items::{Boxed, Items};
-use std::alloc::{AllocError, Global};
+use std::alloc::Global;
 
 /// A number.
 #[tactic(auto, unfolding(crate::specs::Rules::number, c_operators::specs::Operators::typed))]
@@ -66,18 +65,17 @@ fn operand_rule(operator: BinaryOperator) -> Rule
 pub fn binary(
     alloc: Global,
     world: &World,
-    x: TypedExpr,
+    x: Boxed<TypedExpr>,
     operator: BinaryOperator,
-    y: TypedExpr,
+    y: Boxed<TypedExpr>,
 ) -> Result<TypedExpr, Failure>
     ensures { Walks (spec.binary x operator y world.now) result world.now }
 {
     let ty = found(
         operand_rule(operator),
-        operated(alloc, &world.structs, operator, &x, &y)?,
+        operated(alloc, &world.structs, operator, x.get(), y.get())?,
     )?;
-    let constant = of_binary(operator, x.constant, y.constant);
-    let (x, y) = boxed_pair(alloc, x, y)?;
+    let constant = of_binary(operator, x.get().constant, y.get().constant);
     Ok(TypedExpr {
         form: TypedForm::Binary(x, operator, y),
         ty,
@@ -94,16 +92,27 @@ pub fn binary(
 pub fn conditional(
     alloc: Global,
     _world: &World,
-    condition: TypedExpr,
-    then_value: TypedExpr,
-    else_value: TypedExpr,
+    condition: Boxed<TypedExpr>,
+    then_value: Boxed<TypedExpr>,
+    else_value: Boxed<TypedExpr>,
 ) -> Result<TypedExpr, Failure>
     ensures { Walks (spec.conditional condition then_value else_value _world.now) result _world.now }
 {
-    let ty = conditional_type(alloc, _world, &condition, &then_value, &else_value)?;
-    let constant = of_conditional(condition.constant, then_value.constant, else_value.constant);
-    let form = conditional_form(alloc, condition, then_value, else_value)?;
-    Ok(TypedExpr { form, ty, constant })
+    let ty = conditional_type(alloc, _world, condition.get(), then_value.get(), else_value.get())?;
+    let constant = of_conditional(
+        condition.get().constant,
+        then_value.get().constant,
+        else_value.get().constant,
+    );
+    Ok(TypedExpr {
+        form: TypedForm::Conditional {
+            condition,
+            then_value,
+            else_value,
+        },
+        ty,
+        constant,
+    })
 }
 
 /// What `?:` asks, and the type that it gives.
@@ -125,35 +134,21 @@ fn conditional_type(
     Ok(ty)
 }
 
-/// `?:` of its parts.
-fn conditional_form(
-    alloc: Global,
-    condition: TypedExpr,
-    then_value: TypedExpr,
-    else_value: TypedExpr,
-) -> Result<TypedForm, AllocError>
-    ensures { IfOk result (λ made. made ≡ form.Conditional condition then_value else_value) }
-{
-    let condition = Boxed::new(alloc, condition)?;
-    let (then_value, else_value) = boxed_pair(alloc, then_value, else_value)?;
-    Ok(TypedForm::Conditional {
-        condition,
-        then_value,
-        else_value,
-    })
-}
-
 /// An index.
 ///
 /// # Errors
 ///
 /// `Broken`, at the first rule that is broken. `Memory`, where no memory is left.
 #[tactic(auto, unfolding(crate::specs::Rules::index, c_operators::specs::Operators::typed))]
-pub fn index(alloc: Global, world: &World, x: TypedExpr, i: TypedExpr) -> Result<TypedExpr, Failure>
+pub fn index(
+    alloc: Global,
+    world: &World,
+    x: Boxed<TypedExpr>,
+    i: Boxed<TypedExpr>,
+) -> Result<TypedExpr, Failure>
     ensures { Walks (spec.index x i world.now) result world.now }
 {
-    let ty = indexed(alloc, world, &x, &i)?;
-    let (x, i) = boxed_pair(alloc, x, i)?;
+    let ty = indexed(alloc, world, x.get(), i.get())?;
     Ok(TypedExpr {
         form: TypedForm::Index(x, i),
         ty,

@@ -46,11 +46,16 @@ fn member_at(structs: &StructTable, s: u32, place: u32) -> Option<&Ty>
 ///
 /// `Broken`, at the first rule that is broken. `Memory`, where no memory is left.
 #[tactic(auto, unfolding(crate::specs::Rules::member, c_operators::specs::Operators::typed))]
-pub fn member(alloc: Global, world: &World, x: TypedExpr, name: &Name) -> Result<TypedExpr, Failure>
+pub fn member(
+    alloc: Global,
+    world: &World,
+    x: Boxed<TypedExpr>,
+    name: &Name,
+) -> Result<TypedExpr, Failure>
     ensures { Walks (spec.member x name.now world.now) result world.now }
 {
-    let (number, ty) = member_found(world, &x, name)?;
-    let (x, name) = boxed_with(alloc, x, name)?;
+    let (number, ty) = member_found(world, x.get(), name)?;
+    let name = copy_name(alloc, name)?;
     Ok(TypedExpr {
         form: TypedForm::Member(x, name, number),
         ty,
@@ -69,33 +74,25 @@ fn member_found(world: &World, x: &TypedExpr, name: &Name) -> Result<(u32, Ty), 
     Ok(found(Rule::Member, member_of(&world.structs, name, &x.ty)?)?)
 }
 
-/// An operand on the heap, and a copy of a name.
-fn boxed_with(
-    alloc: Global,
-    x: TypedExpr,
-    name: &Name,
-) -> Result<(Boxed<TypedExpr>, Name), AllocError>
-    ensures { IfOk result (λ both. both ≡ (x, name.now)) }
-{
-    let x = Boxed::new(alloc, x)?;
-    let name = copy_name(alloc, name)?;
-    Ok((x, name))
-}
-
 /// `->` and a name.
 ///
 /// # Errors
 ///
 /// `Broken`, at the first rule that is broken. `Memory`, where no memory is left.
 #[tactic(auto, unfolding(crate::specs::Rules::arrow, c_operators::specs::Operators::typed))]
-pub fn arrow(alloc: Global, world: &World, x: TypedExpr, name: &Name) -> Result<TypedExpr, Failure>
+pub fn arrow(
+    alloc: Global,
+    world: &World,
+    x: Boxed<TypedExpr>,
+    name: &Name,
+) -> Result<TypedExpr, Failure>
     ensures { Walks (spec.arrow x name.now world.now) result world.now }
 {
     let (number, ty) = found(
         Rule::Member,
-        member_behind(alloc, &world.structs, &x, name)?,
+        member_behind(alloc, &world.structs, x.get(), name)?,
     )?;
-    let (x, name) = boxed_with(alloc, x, name)?;
+    let name = copy_name(alloc, name)?;
     Ok(TypedExpr {
         form: TypedForm::Arrow(x, name, number),
         ty,

@@ -18,12 +18,12 @@ use std::alloc::{AllocError, Global};
 ///
 /// `Broken`, at the first rule that is broken. `Memory`, where no memory is left.
 #[tactic(auto, unfolding(crate::specs::Rules::size_of_value, c_operators::specs::Operators::typed, c_operators::specs::Operators::type_of))]
-pub fn size_of_value(alloc: Global, world: &World, x: TypedExpr) -> Result<TypedExpr, Failure>
+pub fn size_of_value(world: &World, x: Boxed<TypedExpr>) -> Result<TypedExpr, Failure>
     ensures { Walks (spec.size_of_value x world.now) result world.now }
 {
-    test(Rule::Unsized, has_units(&world.structs, &x.ty))?;
+    test(Rule::Unsized, has_units(&world.structs, &x.get().ty))?;
     Ok(TypedExpr {
-        form: TypedForm::SizeofExpr(Boxed::new(alloc, x)?),
+        form: TypedForm::SizeofExpr(x),
         ty: Ty::Int,
         constant: Constant::Other,
     })
@@ -35,12 +35,12 @@ pub fn size_of_value(alloc: Global, world: &World, x: TypedExpr) -> Result<Typed
 ///
 /// `Broken`, at the first rule that is broken. `Memory`, where no memory is left.
 #[tactic(auto, unfolding(crate::specs::Rules::size_of_type, c_operators::specs::Operators::typed))]
-pub fn size_of_type(alloc: Global, world: &World, word: TypedTypeWord) -> Result<TypedExpr, Failure>
+pub fn size_of_type(world: &World, word: Boxed<TypedTypeWord>) -> Result<TypedExpr, Failure>
     ensures { Walks (spec.size_of_type word world.now) result world.now }
 {
-    let units = found(Rule::Unsized, world.structs.units(&word.ty).ok())?;
+    let units = found(Rule::Unsized, world.structs.units(&word.get().ty).ok())?;
     Ok(TypedExpr {
-        form: TypedForm::SizeofType(Boxed::new(alloc, word)?),
+        form: TypedForm::SizeofType(word),
         ty: Ty::Int,
         constant: Constant::Value(i64::from(units)),
     })
@@ -55,15 +55,6 @@ fn may_be_cast(x: &TypedExpr, to: &Ty) -> bool
     is_void(to) || (is_scalar(to) && is_scalar_value(x))
 }
 
-/// A cast of its parts.
-fn cast_form(alloc: Global, word: TypedTypeWord, x: TypedExpr) -> Result<TypedForm, AllocError>
-    ensures { IfOk result (λ made. made ≡ form.Cast word x) }
-{
-    let word = Boxed::new(alloc, word)?;
-    let x = Boxed::new(alloc, x)?;
-    Ok(TypedForm::Cast(word, x))
-}
-
 /// A cast.
 ///
 /// # Errors
@@ -71,18 +62,20 @@ fn cast_form(alloc: Global, word: TypedTypeWord, x: TypedExpr) -> Result<TypedFo
 /// `Broken`, at the first rule that is broken. `Memory`, where no memory is left.
 #[tactic(auto, unfolding(crate::specs::Rules::cast, c_operators::specs::Operators::typed, c_operators::specs::Operators::constant_of))]
 pub fn cast(
-    alloc: Global,
     _world: &World,
-    word: TypedTypeWord,
-    x: TypedExpr,
+    word: Boxed<TypedTypeWord>,
+    x: Boxed<TypedExpr>,
 ) -> Result<TypedExpr, Failure>
     ensures { Walks (spec.cast word x _world.now) result _world.now }
 {
-    if !may_be_cast(&x, &word.ty) {
+    if !may_be_cast(x.get(), &word.get().ty) {
         return Err(Failure::Broken(Rule::Cast));
     }
-    let ty = copy_type(&word.ty)?;
-    let constant = of_cast(&ty, x.constant);
-    let form = cast_form(alloc, word, x)?;
-    Ok(TypedExpr { form, ty, constant })
+    let ty = copy_type(&word.get().ty)?;
+    let constant = of_cast(&ty, x.get().constant);
+    Ok(TypedExpr {
+        form: TypedForm::Cast(word, x),
+        ty,
+        constant,
+    })
 }

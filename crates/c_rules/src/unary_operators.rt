@@ -4,7 +4,7 @@ ghost use Rattle.std.specs.Prelude.{◌≡◌, true, IfOk, OnOk};
 ghost use Rattle.c_rules.specs.Rules as spec;
 ghost use Rattle.c_scope.specs.Walks.{Walks};
 
-use crate::operands::{pointed};
+use crate::operands::pointed;
 use c_operators::{has_units, is_integer_value, is_lvalue, is_scalar_value, of_unary};
 use c_scope::{Failure, Rule, World, test};
 use c_tree::UnaryOperator;
@@ -24,30 +24,30 @@ pub fn unary(
     alloc: Global,
     world: &mut World,
     operator: UnaryOperator,
-    x: TypedExpr,
+    x: Boxed<TypedExpr>,
 ) -> Result<TypedExpr, Failure>
     ensures { Walks (spec.unary_of operator x world.old) result world.new }
 {
     match operator {
         UnaryOperator::Address => address(alloc, world, x),
         UnaryOperator::Dereference => dereference(alloc, world, x),
-        UnaryOperator::Not => negation(alloc, world, x),
+        UnaryOperator::Not => negation(world, x),
         UnaryOperator::Negate | UnaryOperator::Complement => {
-            arithmetic(alloc, world, operator, x)
+            arithmetic(world, operator, x)
         }
     }
 }
 
 /// `&`
 #[tactic(auto, unfolding(crate::specs::Rules::address, c_operators::specs::Operators::typed, c_operators::specs::Operators::type_of))]
-fn address(alloc: Global, world: &mut World, x: TypedExpr) -> Result<TypedExpr, Failure>
+fn address(alloc: Global, world: &mut World, x: Boxed<TypedExpr>) -> Result<TypedExpr, Failure>
     ensures { Walks (spec.address x world.old) result world.new }
 {
-    test(Rule::NotLvalue, has_address(&x))?;
-    mark_addressed(alloc, world, &x)?;
-    let ty = Ty::Pointer(Shared::new(alloc, copy_type(&x.ty)?)?);
+    test(Rule::NotLvalue, has_address(x.get()))?;
+    mark_addressed(alloc, world, x.get())?;
+    let ty = Ty::Pointer(Shared::new(alloc, copy_type(&x.get().ty)?)?);
     Ok(TypedExpr {
-        form: TypedForm::Unary(UnaryOperator::Address, Boxed::new(alloc, x)?),
+        form: TypedForm::Unary(UnaryOperator::Address, x),
         ty,
         constant: Constant::Other,
     })
@@ -102,11 +102,10 @@ fn addressed(alloc: Global, local: &Local) -> Result<Local, AllocError>
 
 /// `*`
 #[tactic(auto, unfolding(crate::specs::Rules::dereference, c_operators::specs::Operators::typed))]
-fn dereference(alloc: Global, world: &World, x: TypedExpr) -> Result<TypedExpr, Failure>
+fn dereference(alloc: Global, world: &World, x: Boxed<TypedExpr>) -> Result<TypedExpr, Failure>
     ensures { Walks (spec.dereference x world.now) result world.now }
 {
-    let ty = dereferenced(alloc, world, &x)?;
-    let x = Boxed::new(alloc, x)?;
+    let ty = dereferenced(alloc, world, x.get())?;
     Ok(TypedExpr {
         form: TypedForm::Unary(UnaryOperator::Dereference, x),
         ty,
@@ -129,17 +128,16 @@ fn dereferenced(alloc: Global, world: &World, x: &TypedExpr) -> Result<Ty, Failu
 /// `-` and `~`
 #[tactic(auto, unfolding(crate::specs::Rules::arithmetic, c_operators::specs::Operators::typed, c_operators::specs::Operators::constant_of))]
 fn arithmetic(
-    alloc: Global,
     _world: &World,
     operator: UnaryOperator,
-    x: TypedExpr,
+    x: Boxed<TypedExpr>,
 ) -> Result<TypedExpr, Failure>
     ensures { Walks (spec.arithmetic operator x _world.now) result _world.now }
 {
-    test(Rule::Operands, is_integer_value(&x))?;
-    let constant = of_unary(operator, x.constant);
+    test(Rule::Operands, is_integer_value(x.get()))?;
+    let constant = of_unary(operator, x.get().constant);
     Ok(TypedExpr {
-        form: TypedForm::Unary(operator, Boxed::new(alloc, x)?),
+        form: TypedForm::Unary(operator, x),
         ty: Ty::Int,
         constant,
     })
@@ -147,13 +145,13 @@ fn arithmetic(
 
 /// `!`
 #[tactic(auto, unfolding(crate::specs::Rules::negation, c_operators::specs::Operators::typed, c_operators::specs::Operators::constant_of))]
-fn negation(alloc: Global, _world: &World, x: TypedExpr) -> Result<TypedExpr, Failure>
+fn negation(_world: &World, x: Boxed<TypedExpr>) -> Result<TypedExpr, Failure>
     ensures { Walks (spec.negation x _world.now) result _world.now }
 {
-    test(Rule::NotScalar, is_scalar_value(&x))?;
-    let constant = of_unary(UnaryOperator::Not, x.constant);
+    test(Rule::NotScalar, is_scalar_value(x.get()))?;
+    let constant = of_unary(UnaryOperator::Not, x.get().constant);
     Ok(TypedExpr {
-        form: TypedForm::Unary(UnaryOperator::Not, Boxed::new(alloc, x)?),
+        form: TypedForm::Unary(UnaryOperator::Not, x),
         ty: Ty::Int,
         constant,
     })

@@ -20,77 +20,83 @@ use Rattle.c_expr_typing.proofs.walk.+walk.Given as goal
 -- Each call is of a part, or of the same tree by a function with a lesser rest.
 
 abbrev pub decreases-expression : goal.decreases-expression
-decreases-expression l = 4 * size-Expr l.expr.now + 1
+decreases-expression l = 6 * size-Expr l.expr.now + 1
 
 abbrev pub decreases-expression_node : goal.decreases-expression_node
-decreases-expression_node l = 4 * size-Expr l.expr.now
+decreases-expression_node l = 6 * size-Expr l.expr.now
 
 abbrev pub decreases-operands : goal.decreases-operands
-decreases-operands l = 4 * max (size-Expr l.a.now) (size-Expr l.b.now) + 2
+decreases-operands l = 6 * max (size-Expr l.a.now) (size-Expr l.b.now) + 3
+
+abbrev pub decreases-operand : goal.decreases-operand
+decreases-operand l = 6 * size-Expr l.a.now + 2
 
 abbrev pub decreases-arms : goal.decreases-arms
-decreases-arms l = 4 * max (size-Expr l.c.now) (max (size-Expr l.a.now) (size-Expr l.b.now)) + 3
+decreases-arms l = 6 * max (size-Expr l.c.now) (max (size-Expr l.a.now) (size-Expr l.b.now)) + 4
 
 abbrev pub decreases-cast_parts : goal.decreases-cast_parts
-decreases-cast_parts l = 4 * max (size-TypeWord l.word.now) (size-Expr l.a.now) + 3
+decreases-cast_parts l = 6 * max (size-TypeWord l.word.now) (size-Expr l.a.now) + 3
 
 abbrev pub decreases-called : goal.decreases-called
-decreases-called l = 4 * max (size-Expr l.callee.now) (most size-Expr l.given.now) + 3
+decreases-called l = 6 * max (size-Expr l.callee.now) (most size-Expr l.given.now) + 3
 
 abbrev pub decreases-arguments : goal.decreases-arguments
-decreases-arguments l = 4 * most size-Expr l.all.now + 2
+decreases-arguments l = 6 * most size-Expr l.all.now + 2
 
 abbrev pub decreases-type_word : goal.decreases-type_word
-decreases-type_word l = 4 * size-TypeWord l.word.now
+decreases-type_word l = 6 * size-TypeWord l.word.now
+
+abbrev pub decreases-boxed_word : goal.decreases-boxed_word
+decreases-boxed_word l = 6 * size-TypeWord l.word.now + 1
 
 abbrev pub decreases-abstract_declarator : goal.decreases-abstract_declarator
-decreases-abstract_declarator l = 4 * size-AbstractDeclarator l.declarator.now
+decreases-abstract_declarator l = 6 * size-AbstractDeclarator l.declarator.now
 
 abbrev inside_size : Option AbstractDeclarator → ℕ
 inside_size None = 0
 inside_size (Some a) = size-AbstractDeclarator a
 
 abbrev pub decreases-bracketed : goal.decreases-bracketed
-decreases-bracketed l = 4 * inside_size l.inside.now + 1
+decreases-bracketed l = 6 * inside_size l.inside.now + 1
 
 abbrev pub decreases-declarator : goal.decreases-declarator
-decreases-declarator l = 4 * size-Declarator l.declarator.now
+decreases-declarator l = 6 * size-Declarator l.declarator.now
 
 abbrev pub decreases-direct : goal.decreases-direct
-decreases-direct l = 4 * size-Direct l.inside.now
+decreases-direct l = 6 * size-Direct l.inside.now
 
 abbrev pub decreases-suffixes : goal.decreases-suffixes
-decreases-suffixes l = 4 * most size-Suffix l.all.now + 2
+decreases-suffixes l = 6 * most size-Suffix l.all.now + 2
 
 abbrev pub decreases-suffix : goal.decreases-suffix
-decreases-suffix l = 4 * size-Suffix l.suffix.now + 1
+decreases-suffix l = 6 * size-Suffix l.suffix.now + 1
 
 abbrev pub decreases-bounded : goal.decreases-bounded
-decreases-bounded l = 4 * size-Expr l.value.now + 2
+decreases-bounded l = 6 * size-Expr l.value.now + 2
 
 abbrev pub decreases-parameters : goal.decreases-parameters
-decreases-parameters l = 4 * size-Params l.params.now
+decreases-parameters l = 6 * size-Params l.params.now
 
 abbrev pub decreases-parameter_list : goal.decreases-parameter_list
-decreases-parameter_list l = 4 * most size-Param l.all.now + 2
+decreases-parameter_list l = 6 * most size-Param l.all.now + 2
 
 abbrev pub decreases-param : goal.decreases-param
-decreases-param l = 4 * size-Param l.param.now + 1
+decreases-param l = 6 * size-Param l.param.now + 1
 
 abbrev pub decreases-spec : goal.decreases-spec
-decreases-spec l = 4 * size-Spec l.spec.now
+decreases-spec l = 6 * size-Spec l.spec.now
 
 abbrev pub decreases-struct_body : goal.decreases-struct_body
-decreases-struct_body l = 4 * most size-MemberDecl l.all.now + 3
+decreases-struct_body l = 6 * most size-MemberDecl l.all.now + 3
 
 abbrev pub decreases-members : goal.decreases-members
-decreases-members l = 4 * most size-MemberDecl l.all.now + 2
+decreases-members l = 6 * most size-MemberDecl l.all.now + 2
 
 abbrev pub decreases-member_decl : goal.decreases-member_decl
-decreases-member_decl l = 4 * size-MemberDecl l.line.now + 1
+decreases-member_decl l = 6 * size-MemberDecl l.line.now + 1
 
 abbrev pub decreases-member_declarators : goal.decreases-member_declarators
-decreases-member_declarators l = 4 * most size-Declarator l.all.now + 2
+decreases-member_declarators l = 6 * most size-Declarator l.all.now + 2
 
 -- In each loop, what is found and what is left are the whole list.
 
