@@ -144,7 +144,11 @@ fn stepped(
 ///
 /// `Broken`, at the first rule that is broken. `Memory`, where no memory is left.
 #[tactic(auto, unfolding(crate::specs::Rules::stepped, c_operators::specs::Operators::typed))]
-pub fn pre_increment(alloc: Global, world: &World, x: Boxed<TypedExpr>) -> Result<TypedExpr, Failure>
+pub fn pre_increment(
+    alloc: Global,
+    world: &World,
+    x: Boxed<TypedExpr>,
+) -> Result<TypedExpr, Failure>
     ensures { Walks (spec.stepped op.Add form.PreIncrement x world.now) result world.now }
 {
     let ty = stepped(alloc, world, BinaryOperator::Add, x.get())?;
@@ -161,7 +165,11 @@ pub fn pre_increment(alloc: Global, world: &World, x: Boxed<TypedExpr>) -> Resul
 ///
 /// `Broken`, at the first rule that is broken. `Memory`, where no memory is left.
 #[tactic(auto, unfolding(crate::specs::Rules::stepped, c_operators::specs::Operators::typed))]
-pub fn pre_decrement(alloc: Global, world: &World, x: Boxed<TypedExpr>) -> Result<TypedExpr, Failure>
+pub fn pre_decrement(
+    alloc: Global,
+    world: &World,
+    x: Boxed<TypedExpr>,
+) -> Result<TypedExpr, Failure>
     ensures { Walks (spec.stepped op.Subtract form.PreDecrement x world.now) result world.now }
 {
     let ty = stepped(alloc, world, BinaryOperator::Subtract, x.get())?;
@@ -178,7 +186,11 @@ pub fn pre_decrement(alloc: Global, world: &World, x: Boxed<TypedExpr>) -> Resul
 ///
 /// `Broken`, at the first rule that is broken. `Memory`, where no memory is left.
 #[tactic(auto, unfolding(crate::specs::Rules::stepped, c_operators::specs::Operators::typed))]
-pub fn post_increment(alloc: Global, world: &World, x: Boxed<TypedExpr>) -> Result<TypedExpr, Failure>
+pub fn post_increment(
+    alloc: Global,
+    world: &World,
+    x: Boxed<TypedExpr>,
+) -> Result<TypedExpr, Failure>
     ensures { Walks (spec.stepped op.Add form.PostIncrement x world.now) result world.now }
 {
     let ty = stepped(alloc, world, BinaryOperator::Add, x.get())?;
@@ -195,7 +207,11 @@ pub fn post_increment(alloc: Global, world: &World, x: Boxed<TypedExpr>) -> Resu
 ///
 /// `Broken`, at the first rule that is broken. `Memory`, where no memory is left.
 #[tactic(auto, unfolding(crate::specs::Rules::stepped, c_operators::specs::Operators::typed))]
-pub fn post_decrement(alloc: Global, world: &World, x: Boxed<TypedExpr>) -> Result<TypedExpr, Failure>
+pub fn post_decrement(
+    alloc: Global,
+    world: &World,
+    x: Boxed<TypedExpr>,
+) -> Result<TypedExpr, Failure>
     ensures { Walks (spec.stepped op.Subtract form.PostDecrement x world.now) result world.now }
 {
     let ty = stepped(alloc, world, BinaryOperator::Subtract, x.get())?;

@@ -5,7 +5,9 @@ ghost use Rattle.c_rules.specs.Rules as spec;
 ghost use Rattle.c_scope.specs.Walks.{Walks};
 
 use crate::operands::pointed;
-use c_operators::{chosen, has_units, is_integer_value, is_scalar_value, of_binary, of_conditional, operated};
+use c_operators::{
+    chosen, has_units, is_integer_value, is_scalar_value, of_binary, of_conditional, operated,
+};
 use c_scope::{Failure, Rule, World, count, found};
 use c_tree::BinaryOperator;
 use c_typed::{Constant, TypedExpr, TypedForm};
@@ -98,7 +100,13 @@ pub fn conditional(
 ) -> Result<TypedExpr, Failure>
     ensures { Walks (spec.conditional condition then_value else_value _world.now) result _world.now }
 {
-    let ty = conditional_type(alloc, _world, condition.get(), then_value.get(), else_value.get())?;
+    let ty = conditional_type(
+        alloc,
+        _world,
+        condition.get(),
+        then_value.get(),
+        else_value.get(),
+    )?;
     let constant = of_conditional(
         condition.get().constant,
         then_value.get().constant,

@@ -32,9 +32,7 @@ pub fn unary(
         UnaryOperator::Address => address(alloc, world, x),
         UnaryOperator::Dereference => dereference(alloc, world, x),
         UnaryOperator::Not => negation(world, x),
-        UnaryOperator::Negate | UnaryOperator::Complement => {
-            arithmetic(world, operator, x)
-        }
+        UnaryOperator::Negate | UnaryOperator::Complement => { arithmetic(world, operator, x) }
     }
 }
 
