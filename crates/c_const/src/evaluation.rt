@@ -284,14 +284,14 @@ fn type_word(
     ensures { Gives ((evaluated structs.now names.now).type_word word.now) result }
 {
     let base = spec_type(structs, names, &word.spec)?;
-    let layers = nameless_layers(alloc, structs, names, &word.declarator)?;
+    let layers = abstract_layers(alloc, structs, names, &word.declarator)?;
     word_type(alloc, structs, base, layers.as_slice())
 }
 
 /// The layers of a declarator without a name.
 #[cycle(evaluation)]
 #[tactic(auto, using(crate::proofs::Forms::declarators))]
-fn nameless_layers(
+fn abstract_layers(
     alloc: Global,
     structs: &StructTable,
     names: &TypeTable,
@@ -301,7 +301,7 @@ fn nameless_layers(
 {
     let inside = match &declarator.bracketed {
         None => Items::new(alloc),
-        Some(inside) => nameless_layers(alloc, structs, names, inside.get())?,
+        Some(inside) => abstract_layers(alloc, structs, names, inside.get())?,
     };
     let suffixes = suffix_layers(alloc, structs, names, declarator.suffixes.as_slice())?;
     Ok(joined(inside, suffixes, declarator.stars)?)
@@ -437,7 +437,7 @@ fn parameter(
         }
         Param::Unnamed(spec, declarator) => {
             let base = spec_type(structs, names, spec)?;
-            let layers = nameless_layers(alloc, structs, names, declarator)?;
+            let layers = abstract_layers(alloc, structs, names, declarator)?;
             parameter_of(alloc, structs, base, layers.as_slice())
         }
     }

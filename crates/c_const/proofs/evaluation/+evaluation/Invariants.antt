@@ -44,8 +44,8 @@ decreases-operands l = 4 * most size-Expr l.all.now + 2
 abbrev pub decreases-type_word : goal.decreases-type_word
 decreases-type_word l = 4 * size-TypeWord l.word.now
 
-abbrev pub decreases-nameless_layers : goal.decreases-nameless_layers
-decreases-nameless_layers l = 4 * size-AbstractDeclarator l.declarator.now
+abbrev pub decreases-abstract_layers : goal.decreases-abstract_layers
+decreases-abstract_layers l = 4 * size-AbstractDeclarator l.declarator.now
 
 abbrev pub decreases-declarator_layers : goal.decreases-declarator_layers
 decreases-declarator_layers l = 4 * size-Declarator l.declarator.now
