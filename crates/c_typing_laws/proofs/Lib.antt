@@ -1,0 +1,9 @@
+mod KeptNodes
+mod RulesKeepForms
+mod ExpressionsKeepTrees
+mod PartsKeepTrees
+mod WalksKeepTrees
+mod InitialisersKeepTrees
+mod DeclarationsKeepTrees
+mod StatementsKeepTrees
+mod SourcesKeepTrees

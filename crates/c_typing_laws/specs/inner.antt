@@ -1,0 +1,6 @@
+pub mod Yields
+pub mod ErasedTrees
+pub mod ErasedForms
+pub mod ErasedDeclarators
+pub mod ErasedStatements
+pub mod WalkedTrees
