@@ -7,3 +7,11 @@ mod InitialisersKeepTrees
 mod DeclarationsKeepTrees
 mod StatementsKeepTrees
 mod SourcesKeepTrees
+mod TypedParts
+mod WorldSteps
+mod RowsStay
+mod RulesMeetRows
+mod MetNodes
+mod ExpressionsMeetRows
+mod PartsMeetRows
+mod WalksMeetRows

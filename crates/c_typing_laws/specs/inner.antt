@@ -4,3 +4,5 @@ pub mod ErasedForms
 pub mod ErasedDeclarators
 pub mod ErasedStatements
 pub mod WalkedTrees
+pub mod TypedTrees
+pub mod Goes
