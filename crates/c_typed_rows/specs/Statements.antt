@@ -20,7 +20,6 @@ use Rattle.c_typed.specs.declared.statement.TypedFullExpr.{TypedFullExpr}
 use Rattle.c_typed.specs.declared.statement.TypedInit.{TypedInit}
 use Rattle.c_typed.specs.declared.statement.TypedInitDeclarator.{TypedInitDeclarator}
 use Rattle.c_typed.specs.declared.statement.TypedStmt.{TypedStmt}
-use Rattle.c_scope.specs.BuiltIns.{built_in_type}
 use Rattle.c_rules.specs.Operators.{converts, is_scalar_value}
 use Rattle.c_typed_rows.specs.Contexts.{Context, global_type, local_type}
 use Rattle.c_typed_rows.specs.Expressions.{IsTypedDeclared, IsTypedSpec, IsTypedValue}
@@ -37,13 +36,13 @@ pub record VariableRow (k : Context) (t : Ty) (i : Option TypedInit) : Type 0 wh
   pub units : IsTrue (has_units k.structs t)
   pub init : IfInit (IsTypedInit k t) i
 
--- a variable is the one of its number, and a function has the type of one
+-- a variable is the one of its number; a function, and a built-in that is declared again, has the type of one
 abbrev pub DeclaredRow : Context → Entity → Ty → Option TypedInit → Type 0
 DeclaredRow k (entity.Global n) t i = (global_type k n ≡ Some t) × VariableRow k t i
 DeclaredRow k (entity.Local n) t i = (local_type k n ≡ Some t) × VariableRow k t i
 DeclaredRow k entity.Parameter t i = ⊥
 DeclaredRow k entity.Function t i = (f : FnTy) × (t ≡ ty.Function f)
-DeclaredRow k (entity.BuiltIn b) t i = t ≡ ty.Function (built_in_type b)
+DeclaredRow k (entity.BuiltIn b) t i = (f : FnTy) × (t ≡ ty.Function f)
 
 pub record IsTypedInitDeclarator (k : Context) (d : TypedInitDeclarator) : Type 0 where
   pub bounds : IsTypedDeclared k d.declared

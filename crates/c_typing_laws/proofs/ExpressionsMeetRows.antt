@@ -8,6 +8,7 @@ use Rattle.c_tree.specs.Fold.{Node, Plain, with_results}
 use Rattle.c_types.specs.declared.ty.Ty.{Ty}
 use Rattle.c_types.specs.Theorems.{TablesGrow, UnitsStay}
 use Rattle.c_typed.specs.declared.expression.TypedDirect.TheOpen.{TypedForm-F}
+use Rattle.c_typed.specs.declared.expression.TypedExpr.{TypedExpr}
 use Rattle.c_typed.specs.declared.expression.TypedForm.TheVariants as form
 use Rattle.c_scope.specs.declared.scopes.Binding.{Binding}
 use Rattle.c_scope.specs.declared.world.World.{World}
@@ -29,7 +30,7 @@ module _ (stay : UnitsStay) (grow : TablesGrow) (k : Context) (gs : List Ty) (ah
     abbrev Here : World → Type 0
     Here w = rules.Here stay grow k gs ahead ss ls w
 
-    abbrev Ready : _
+    abbrev Ready : TypedExpr → Type 0
     Ready = rules.Ready stay grow k gs ahead ss ls
 
     operands-go : (a b : MetExpr stay grow k gs ahead) (w : World) → Here w → Goes k gs quiet w (operands (walked.expr a.0) (walked.expr b.0) w) (λ r. Ready r.0 × Ready r.1)

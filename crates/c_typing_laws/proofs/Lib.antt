@@ -15,3 +15,5 @@ mod MetNodes
 mod ExpressionsMeetRows
 mod PartsMeetRows
 mod WalksMeetRows
+mod InitialisersMeetRows
+mod DeclarationsMeetRows

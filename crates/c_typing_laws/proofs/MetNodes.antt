@@ -1,5 +1,5 @@
 -- Of each type of trees: that what its walk finds meets its rows.
-use Rattle.std.proofs.Common.{◌≡◌, ℕ, Bool, List, Some, slice_get}
+use Rattle.std.proofs.Common.{◌≡◌, ℕ, true, false, List, Some, slice_get}
 use Rattle.c_types.specs.declared.structs.Member.{Member}
 use Rattle.c_types.specs.declared.ty.Ty.{Ty}
 use Rattle.c_types.specs.Theorems.{TablesGrow, UnitsStay}
@@ -24,7 +24,7 @@ use Rattle.c_typed_rows.specs.Expressions.{IsTypedSpec}
 use Rattle.c_typing_laws.specs.inner.Goes.{Goes}
 use Rattle.c_typing_laws.specs.inner.TypedTrees.{IsTypedAbstract, IsTypedDeclarator, IsTypedDirect, IsTypedMember, IsTypedParam, IsTypedParams, IsTypedSuffix, IsTypedTypeWord}
 use Rattle.c_typing_laws.proofs.RulesMeetRows.{FoundAt, Here}
-use Rattle.c_typing_laws.proofs.WorldSteps.{inner, quiet}
+use Rattle.c_typing_laws.proofs.WorldSteps.{defining, inner, quiet}
 
 module _ (stay : UnitsStay) (grow : TablesGrow) (k : Context) (gs : List Ty) (ahead : (n : ℕ) (t : Ty) → slice_get gs n ≡ Some t → global_type k n ≡ Some t) where
   abbrev pub MeetsDirect : Direct → Type 0
@@ -40,7 +40,9 @@ module _ (stay : UnitsStay) (grow : TablesGrow) (k : Context) (gs : List Ty) (ah
   MeetsParams t = (w : World) → Goes k gs quiet w (walked.params t w) (λ x. IsTypedParams k x.0)
 
   abbrev pub MeetsSpec : Spec → Type 0
-  MeetsSpec t = (bodies : Bool) (w : World) → Goes k gs quiet w (walked.spec t bodies w) (λ x. IsTypedSpec k x.0)
+  MeetsSpec t =
+      ((w : World) → Goes k gs quiet w (walked.spec t false w) (λ x. IsTypedSpec k x.0))
+      × ((w : World) → Goes k gs defining w (walked.spec t true w) (λ x. IsTypedSpec k x.0))
 
   abbrev pub MeetsSuffix : Suffix → Type 0
   MeetsSuffix t = (w : World) → Goes k gs quiet w (walked.suffix t w) (λ x. IsTypedSuffix k x.0)

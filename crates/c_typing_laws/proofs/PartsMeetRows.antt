@@ -1,10 +1,10 @@
 -- The walks of specs, declarators and type words find what meets its rows, where the walks of their parts do.
-use Rattle.std.proofs.Common.{◌≡◌, ◌∙◌, ℕ, Bool, true, false, ◌⊎◌, inl, inr, List, [], ◌∷◌, ◌++◌, map, Option, Some, None, slice_get, Ok, Err, refl, ap, sym, subst}
+use Rattle.std.proofs.Common.{◌≡◌, ◌∙◌, ℕ, Bool, true, false, ◌⊎◌, inl, inr, List, [], ◌∷◌, ◌++◌, ◌&&◌, length, nat_le, map, Option, Some, None, slice_get, Ok, Err, refl, ap, sym, subst}
 use Rattle.std.specs.List.{AllByRecursion}
 use Rattle.std.specs.Option.{option_map}
 use Rattle.c_layers.specs.declared.layer.Layer.{Layer}
 use Rattle.c_layers.specs.declared.layer.Parameter.{Parameter}
-use Rattle.c_layers.specs.Shapes.{results_fit}
+use Rattle.c_layers.specs.Shapes.{adjusted, results_fit, shaped, whole_of}
 use Rattle.c_tree.specs.declared.expression.AbstractDeclarator.{roll-AbstractDeclarator}
 use Rattle.c_tree.specs.declared.expression.Declarator.{roll-Declarator}
 use Rattle.c_tree.specs.declared.expression.Direct.{roll-Direct}
@@ -12,11 +12,13 @@ use Rattle.c_tree.specs.declared.expression.Direct.TheOpen.{AbstractDeclarator-F
 use Rattle.c_tree.specs.declared.expression.MemberDecl.{roll-MemberDecl}
 use Rattle.c_tree.specs.declared.expression.Param.{roll-Param}
 use Rattle.c_tree.specs.declared.expression.Params.{roll-Params}
-use Rattle.c_tree.specs.declared.expression.Spec.{roll-Spec}
+use Rattle.c_tree.specs.declared.expression.Spec.{map-Spec, roll-Spec}
 use Rattle.c_tree.specs.declared.expression.Suffix.{roll-Suffix}
 use Rattle.c_tree.specs.declared.expression.TypeWord.{roll-TypeWord}
 use Rattle.c_types.specs.declared.structs.Member.{Member}
 use Rattle.c_types.specs.declared.ty.Ty.{Ty}
+use Rattle.c_types.specs.Kinds.{is_scalar}
+use Rattle.c_types.specs.Sound.{is_member_type}
 use Rattle.c_types.specs.Theorems.{TablesGrow, UnitsStay}
 use Rattle.c_typed.specs.declared.entity.Constant.{Constant}
 use Rattle.c_typed.specs.declared.entity.Constant.TheVariants as constant
@@ -27,27 +29,30 @@ use Rattle.c_typed.specs.declared.expression.TypedDirect.{TypedDirect}
 use Rattle.c_typed.specs.declared.expression.TypedDeclarator.{roll-TypedDeclarator}
 use Rattle.c_typed.specs.declared.expression.TypedMemberDecl.{TypedMemberDecl, roll-TypedMemberDecl}
 use Rattle.c_typed.specs.declared.expression.TypedParam.{TypedParam}
+use Rattle.c_typed.specs.declared.expression.TypedParams.{TypedParams}
 use Rattle.c_typed.specs.declared.expression.TypedParams.TheVariants as params
+use Rattle.c_typed.specs.declared.expression.TypedTypeWord.{TypedTypeWord}
 use Rattle.c_typed.specs.declared.expression.TypedSpec.{TypedSpec}
 use Rattle.c_typed.specs.declared.expression.TypedSpec.TheVariants as spec
 use Rattle.c_typed.specs.declared.expression.TypedSuffix.{TypedSuffix}
-use Rattle.c_tree.specs.Fold.{with_results}
+use Rattle.c_tree.specs.Fold.{Node, Plain}
 use Rattle.c_scope.specs.declared.rule.Rule.{Rule}
+use Rattle.c_scope.specs.declared.rule.Rule.TheVariants as broken
 use Rattle.c_scope.specs.declared.scopes.Binding.{Binding}
 use Rattle.c_scope.specs.declared.scopes.Meaning.{Meaning}
 use Rattle.c_scope.specs.declared.scopes.Meaning.TheVariants as means
 use Rattle.c_scope.specs.declared.world.World.{World}
 use Rattle.c_scope.specs.BuiltIns.{Name}
-use Rattle.c_scope.specs.Declarations.{bind_parameter, define, member_rules, member_type, parameter, word_type}
-use Rattle.c_scope.specs.Scopes.{bind, bound_in, enter, leave, outer, within}
-use Rattle.c_scope.specs.Walk.{Outcome, Walk, and_then, each_pair, maybe, rule}
+use Rattle.c_scope.specs.Declarations.{bind_parameter, define, is_new_member, is_undefined, may_be_parameter, member_rules, member_type, most_parameters, parameter, word_type}
+use Rattle.c_scope.specs.Scopes.{bind, bound_in, enter, leave, meaning_of, outer, tag, within}
+use Rattle.c_scope.specs.Walk.{Outcome, Walk, ◌>>=◌, ◌>>◌, and_then, each_pair, maybe, pure, rule, world}
 use Rattle.c_rules.specs.declared.place.Place.TheVariants.{Value}
 use Rattle.c_rules.specs.Operators.{constant_of}
 use Rattle.c_expr_typing.specs.declared.layered.LayeredDeclarator.{LayeredDeclarator}
-use Rattle.c_expr_typing.specs.Trees.{OfMember, body_tag, constant_bound, declared, member_declarators, members, one_member, spec_step, tree_inside, type_name, walked}
+use Rattle.c_expr_typing.specs.Trees.{Found, OfMember, body_tag, constant_bound, declared, is_bound, member_declarators, members, named_type, one_member, spec_step, tree_inside, type_name, walked}
 use Rattle.c_typed_rows.specs.Contexts.{Context, global_type}
 use Rattle.c_typed_rows.specs.Expressions.{IsTypedDeclared, IsTypedSpec}
-use Rattle.c_typing_laws.specs.inner.Goes.{Below, EntityFits, Goes, MeaningFits, ScopesFit, Sound, after, ends, finds, local_types, never, ruled, weaker}
+use Rattle.c_typing_laws.specs.inner.Goes.{Below, EntityFits, Goes, MeaningFits, Relation, ScopesFit, Sound, after, ends, finds, local_types, never, ruled, weaker}
 use Rattle.c_typing_laws.specs.inner.TypedTrees.{IsTypedAbstract, IsTypedDeclarator, IsTypedDirect, IsTypedMember, IsTypedParam, IsTypedParams, IsTypedSuffix, IsTypedTypeWord}
 use Rattle.c_typing_laws.specs.inner.Yields.{map_twice}
 use Rattle.c_typing_laws.proofs.KeptNodes as kept
@@ -56,33 +61,44 @@ use Rattle.c_typing_laws.proofs.MetNodes.{Met, MetAbstractDeclarator, MetDeclara
 use Rattle.c_typing_laws.proofs.RulesMeetRows as rules
 use Rattle.c_typing_laws.proofs.RulesMeetRows.{has_constant}
 use Rattle.c_typing_laws.proofs.TypedParts as parts
-use Rattle.c_typing_laws.proofs.WorldSteps.{IsInner, IsQuiet, below-scopes, define-goes, inner, quiet, quiet-is_inner, sound-quiet, tag-goes}
+use Rattle.c_typing_laws.proofs.WorldSteps.{IsInner, IsQuiet, below-scopes, define-goes, defining, inner, quiet, quiet-is_defining, quiet-is_inner, sound-quiet, tag-goes}
 
 -- ---- lists of what holds
 
-all_held : {A : Type 0} {Q : A → Type 0} (xs : List A) → AllByRecursion Q xs → List ((x : A) × Q x)
-all_held [] hs = []
-all_held (x ∷ xs) hs = (x, hs.0) ∷ all_held xs hs.1
+module _ {A : Type 0} (Q : A → Type 0) where
+  all_held : (xs : List A) → AllByRecursion Q xs → List ((x : A) × Q x)
+  all_held [] hs = []
+  all_held (x ∷ xs) hs = (x, hs.0) ∷ all_held xs hs.1
 
-held-same : {A : Type 0} {Q : A → Type 0} (xs : List A) (hs : AllByRecursion Q xs) → map (λ h. h.0) (all_held {Q = Q} xs hs) ≡ xs
-held-same [] hs = refl
-held-same (x ∷ xs) hs = ap (λ ys. x ∷ ys) (held-same xs hs.1)
+  held-same : (xs : List A) (hs : AllByRecursion Q xs) → map (λ h. h.0) (all_held xs hs) ≡ xs
+  unfolding all_held
+  held-same [] hs = refl
+  held-same (x ∷ xs) hs = ap (λ ys. x ∷ ys) (held-same xs hs.1)
 
--- what is made of a list with what holds of each
-of_held : {A : Type 0} {Q : A → Type 0} (P : List A → Type 0) → ((hs : List ((x : A) × Q x)) → P (map (λ h. h.0) hs)) → (xs : List A) → AllByRecursion Q xs → P xs
-of_held {A} {Q} P make xs hs = subst P (held-same xs hs) (make (all_held {Q = Q} xs hs))
+  -- what is made of a list with what holds of each
+  of_held : (P : List A → Type 0) → ((hs : List ((x : A) × Q x)) → P (map (λ h. h.0) hs)) → (xs : List A) → AllByRecursion Q xs → P xs
+  of_held P make xs hs = subst P (held-same xs hs) (make (all_held xs hs))
+
+first_of : (a b : Bool) → (a && b) ≡ true → a ≡ true
+first_of true b is = refl
+first_of false b is = cc
+
+-- where no body may stand, the tag of one is refused
+untagged : (o : Outcome (ℕ × World)) {r : ℕ × World} → and_then o (λ n. world >>= (λ w. rule broken.Tag (false && is_undefined w.structs n) >> pure n)) ≡ Ok r → ⊥
+untagged (Ok a) is = cc
+untagged (Err e) is = cc
 
 -- ---- scopes
 
-binding-added : (P : Binding → Type 0) (bs : List Binding) (b : Binding) → AllByRecursion P bs → P b → AllByRecursion P (bs ++ b ∷ [])
+pub binding-added : (P : Binding → Type 0) (bs : List Binding) (b : Binding) → AllByRecursion P bs → P b → AllByRecursion P (bs ++ b ∷ [])
 binding-added P [] b hs h = (h, tt)
 binding-added P (c ∷ bs) b hs h = (hs.0, binding-added P bs b hs.1 h)
 
-bound-fits : (gs ls : List Ty) (ss : List (List Binding)) (x : Name) (m : Meaning) → ScopesFit gs ls ss → MeaningFits gs ls m → ScopesFit gs ls (bound_in ss x m)
+pub bound-fits : (gs ls : List Ty) (ss : List (List Binding)) (x : Name) (m : Meaning) → ScopesFit gs ls ss → MeaningFits gs ls m → ScopesFit gs ls (bound_in ss x m)
 bound-fits gs ls [] x m fit h = ((h, tt), tt)
 bound-fits gs ls (s ∷ ss) x m fit h = (binding-added (λ b. MeaningFits gs ls b.meaning) s (record { name = x; meaning = m }) fit.0 h, fit.1)
 
-outer-bound : (ss : List (List Binding)) (x : Name) (m : Meaning) → outer (bound_in ss x m) ≡ outer ss
+pub outer-bound : (ss : List (List Binding)) (x : Name) (m : Meaning) → outer (bound_in ss x m) ≡ outer ss
 outer-bound [] x m = refl
 outer-bound (s ∷ ss) x m = refl
 
@@ -96,7 +112,7 @@ module _ (stay : UnitsStay) (grow : TablesGrow) (k : Context) (gs : List Ty) (ah
   closed {A} {Q} w (Ok a) goes = record { found = λ r is sound.
       let h = goes.found a refl (tt, sound) in
       let end : World = record a.1 { scopes = outer a.1.scopes } in
-      let q : IsQuiet w end = record { scopes = h.0.scopes; locals = h.0.locals } in
+      let q : IsQuiet w end = record { scopes = h.0.scopes; bodies = h.0.bodies; steady = record { locals = h.0.steady.locals; globals = h.0.steady.globals; defined = h.0.steady.defined } } in
       let same : (a.0, end) ≡ r = cc in
       subst (λ (s : A × World). IsQuiet w s.1 × Sound k gs s.1 × (Below k s.1 → Below k w × Q s.0)) same
       (q, sound-quiet grow k gs w end q sound, λ below.
@@ -108,7 +124,7 @@ module _ (stay : UnitsStay) (grow : TablesGrow) (k : Context) (gs : List Ty) (ah
   within-goes p w goes = closed w (p (record w { scopes = [] ∷ w.scopes })) (goes (record w { scopes = [] ∷ w.scopes }))
 
   -- each in order, where each finds two things
-  each_pair-goes : {A B H : Type 0} (R : _) (Q : A → Type 0) (p : H → Walk (A × B)) → ((h : H) (w : World) → Goes k gs R w (p h w) (λ x. Q x.0))
+  each_pair-goes : {A B H : Type 0} (R : Relation) (Q : A → Type 0) (p : H → Walk (A × B)) → ((h : H) (w : World) → Goes k gs R w (p h w) (λ x. Q x.0))
       → (hs : List H) (w : World) → Goes k gs R w (each_pair (map p hs) w) (λ xs. AllByRecursion Q xs.0)
   each_pair-goes R Q p goes [] w = ends k gs (λ below. tt)
   each_pair-goes R Q p goes (h ∷ hs) w =
@@ -119,7 +135,7 @@ module _ (stay : UnitsStay) (grow : TablesGrow) (k : Context) (gs : List Ty) (ah
   -- ---- suffixes
 
   bound-goes : (c : Constant) (w : World) → Goes k gs quiet w (constant_bound c w) (λ n. has_constant c ≡ true)
-  bound-goes (constant.Value v) w = ruled k gs _ _ _ (λ holds. ends k gs (λ below. refl))
+  bound-goes (constant.Value v) w = ruled k gs broken.Unsized (is_bound v) _ (λ holds. ends k gs (λ below. refl))
   bound-goes constant.Other w = never k gs
   bound-goes constant.Divides w = never k gs
 
@@ -153,7 +169,7 @@ module _ (stay : UnitsStay) (grow : TablesGrow) (k : Context) (gs : List Ty) (ah
 
   declarator-made : (n : ℕ) (d : TypedDirect) (xs : List TypedSuffix) → IsTypedDirect k d → AllByRecursion (IsTypedSuffix k) xs
       → IsTypedDeclarator k (roll-TypedDeclarator (record { stars = n; direct = d; suffixes = xs }))
-  declarator-made n d xs hd hs = of_held (λ ys. IsTypedDeclarator k (roll-TypedDeclarator (record { stars = n; direct = d; suffixes = ys }))) (parts.declarator-made k n d hd) xs hs
+  declarator-made n d xs hd hs = of_held (IsTypedSuffix k) (λ ys. IsTypedDeclarator k (roll-TypedDeclarator (record { stars = n; direct = d; suffixes = ys }))) (parts.declarator-made k n d hd) xs hs
 
   pub declarator-met : (y : Met stay grow k gs ahead Declarator-F) → met.MeetsDeclarator stay grow k gs ahead (roll-Declarator (met.plain_declarator stay grow k gs ahead y))
   declarator-met y = λ w.
@@ -162,7 +178,7 @@ module _ (stay : UnitsStay) (grow : TablesGrow) (k : Context) (gs : List Ty) (ah
       after k gs _ _ (suffixes-go y.suffixes v) (λ ss u r.
       ends k gs (λ below hss hx. declarator-made y.stars x.0 ss.0 hx hss))))
 
-  held_inside : Option TypedAbstractDeclarator → Type 0
+  abbrev held_inside : Option TypedAbstractDeclarator → Type 0
   held_inside None = Unit {0}
   held_inside (Some a) = IsTypedAbstract k a
 
@@ -172,8 +188,8 @@ module _ (stay : UnitsStay) (grow : TablesGrow) (k : Context) (gs : List Ty) (ah
 
   abstract-made : (n : ℕ) (o : Option TypedAbstractDeclarator) (xs : List TypedSuffix) → held_inside o → AllByRecursion (IsTypedSuffix k) xs
       → IsTypedAbstract k (roll-TypedAbstractDeclarator (record { stars = n; bracketed = o; suffixes = xs }))
-  abstract-made n None xs ho hs = of_held (λ ys. IsTypedAbstract k (roll-TypedAbstractDeclarator (record { stars = n; bracketed = None; suffixes = ys }))) (parts.abstract-bare k n) xs hs
-  abstract-made n (Some a) xs ho hs = of_held (λ ys. IsTypedAbstract k (roll-TypedAbstractDeclarator (record { stars = n; bracketed = Some a; suffixes = ys }))) (parts.abstract-bracketed k n a ho) xs hs
+  abstract-made n None xs ho hs = of_held (IsTypedSuffix k) (λ ys. IsTypedAbstract k (roll-TypedAbstractDeclarator (record { stars = n; bracketed = None; suffixes = ys }))) (parts.abstract-bare k n) xs hs
+  abstract-made n (Some a) xs ho hs = of_held (IsTypedSuffix k) (λ ys. IsTypedAbstract k (roll-TypedAbstractDeclarator (record { stars = n; bracketed = Some a; suffixes = ys }))) (parts.abstract-bracketed k n a ho) xs hs
 
   abstract-bare : (n : ℕ) (hs : List (MetSuffix stay grow k gs ahead)) (w : World)
       → Goes k gs quiet w (walked.abstract (roll-AbstractDeclarator (record { stars = n; bracketed = None; suffixes = map (λ (h : MetSuffix stay grow k gs ahead). h.0) hs })) w) (λ x. IsTypedAbstract k x.0)
@@ -199,12 +215,12 @@ module _ (stay : UnitsStay) (grow : TablesGrow) (k : Context) (gs : List Ty) (ah
 
   word_type-goes : (base : Ty) (ls : List Layer) (w : World) → Goes k gs quiet w (word_type base ls w) (λ t. Unit {0})
   unfolding word_type
-  word_type-goes base ls w = finds k gs _ _ _ (λ t is. ruled k gs _ _ _ (λ holds. ends k gs (λ below. tt)))
+  word_type-goes base ls w = finds k gs broken.Unsized (whole_of (shaped w.structs base ls)) _ (λ t is. ruled k gs broken.Form (results_fit w.structs base ls) _ (λ holds. ends k gs (λ below. tt)))
 
   pub type_word-met : (y : Met stay grow k gs ahead TypeWord-F) → met.MeetsTypeWord stay grow k gs ahead (roll-TypeWord (met.plain_type_word stay grow k gs ahead y))
   type_word-met y = λ w.
-      subst (λ (p : Walk _). Goes k gs quiet w (p w) (λ x. IsTypedTypeWord k x)) (sym (kept.walked-type_word (met.plain_type_word stay grow k gs ahead y)))
-      (after k gs _ _ (y.spec.1 _ w) (λ base v q.
+      subst (λ (p : Walk TypedTypeWord). Goes k gs quiet w (p w) (IsTypedTypeWord k)) (sym (kept.walked-type_word (met.plain_type_word stay grow k gs ahead y)))
+      (after k gs _ _ (y.spec.1.0 w) (λ base v q.
       after k gs _ _ (y.declarator.1 v) (λ x u r.
       after k gs _ _ (word_type-goes base.1 x.1 u) (λ t s m.
       ends k gs (λ below any hx hb. parts.type_word-made k base.0 x.0 t hb hx)))))
@@ -217,7 +233,7 @@ module _ (stay : UnitsStay) (grow : TablesGrow) (k : Context) (gs : List Ty) (ah
       let end : World = record w { scopes = bound_in w.scopes x (means.Variable entity.Parameter t) } in
       let same : (tt, end) ≡ r = cc in
       subst (λ (s : Unit {0} × World). IsInner w s.1 × Sound k gs s.1 × (Below k s.1 → Below k w × Unit {0})) same
-      (record { scopes = outer-bound w.scopes x (means.Variable entity.Parameter t); locals = refl },
+      (record { scopes = outer-bound w.scopes x (means.Variable entity.Parameter t); bodies = λ s. refl; steady = record { locals = refl; globals = refl; defined = λ y f is. is } },
        bound-fits gs (local_types w) w.scopes x (means.Variable entity.Parameter t) sound tt,
        λ below. (below-scopes grow k gs w (bound_in w.scopes x (means.Variable entity.Parameter t)) below, tt)) }
 
@@ -227,19 +243,19 @@ module _ (stay : UnitsStay) (grow : TablesGrow) (k : Context) (gs : List Ty) (ah
 
   parameter-goes : (o : Option Name) (base : Ty) (ls : List Layer) (w : World) → Goes k gs inner w (parameter o base ls w) (λ t. Unit {0})
   unfolding parameter
-  parameter-goes o base ls w = ruled k gs _ _ _ (λ free. finds k gs _ _ _ (λ t is. ruled k gs _ _ _ (λ fits.
+  parameter-goes o base ls w = ruled k gs broken.Redeclared (may_be_parameter w o) _ (λ free. finds k gs broken.Unsized (whole_of (adjusted (shaped w.structs base ls))) _ (λ t is. ruled k gs broken.Form (results_fit w.structs base ls && is_scalar t) _ (λ fits.
       after k gs _ _ (bind_parameter-goes o t w) (λ u v q. ends k gs (λ below any. tt)))))
 
   pub param-met : (y : Met stay grow k gs ahead Param-F) → met.MeetsParam stay grow k gs ahead (roll-Param (met.plain_param stay grow k gs ahead y))
   param-met (Param-F.Named s d) = λ w.
       subst (λ (p : Walk (TypedParam × Parameter)). Goes k gs inner w (p w) (λ x. IsTypedParam k x.0)) (sym (kept.walked-param (Param-F.Named s.0 d.0)))
-      (after k gs _ _ (quietly _ (s.1 _ w)) (λ base v q.
+      (after k gs _ _ (quietly _ (s.1.0 w)) (λ base v q.
       after k gs _ _ (quietly _ (d.1 v)) (λ x u r.
       after k gs _ _ (parameter-goes (Some x.name) base.1 x.layers u) (λ t m n.
       ends k gs (λ below any hx hb. parts.param-Named k base.0 _ hb (parts.declared-made k x.tree t hx))))))
   param-met (Param-F.Unnamed s a) = λ w.
       subst (λ (p : Walk (TypedParam × Parameter)). Goes k gs inner w (p w) (λ x. IsTypedParam k x.0)) (sym (kept.walked-param (Param-F.Unnamed s.0 a.0)))
-      (after k gs _ _ (quietly _ (s.1 _ w)) (λ base v q.
+      (after k gs _ _ (quietly _ (s.1.0 w)) (λ base v q.
       after k gs _ _ (quietly _ (a.1 v)) (λ x u r.
       after k gs _ _ (parameter-goes None base.1 x.1 u) (λ t m n.
       ends k gs (λ below any hx hb. parts.param-Unnamed k base.0 x.0 t hb hx)))))
@@ -253,13 +269,13 @@ module _ (stay : UnitsStay) (grow : TablesGrow) (k : Context) (gs : List Ty) (ah
 
   pub params-met : (y : Met stay grow k gs ahead Params-F) → met.MeetsParams stay grow k gs ahead (roll-Params (met.plain_params stay grow k gs ahead y))
   params-met Params-F.Nothing = λ w.
-      subst (λ (p : Walk _). Goes k gs quiet w (p w) (λ x. IsTypedParams k x.0)) (sym (kept.walked-params Params-F.Nothing)) (ends k gs (λ below. parts.params-Nothing k))
+      subst (λ (p : Walk (TypedParams × List Parameter)). Goes k gs quiet w (p w) (λ x. IsTypedParams k x.0)) (sym (kept.walked-params Params-F.Nothing)) (ends k gs (λ below. parts.params-Nothing k))
   params-met Params-F.VoidAlone = λ w.
-      subst (λ (p : Walk _). Goes k gs quiet w (p w) (λ x. IsTypedParams k x.0)) (sym (kept.walked-params Params-F.VoidAlone)) (ends k gs (λ below. parts.params-VoidAlone k))
+      subst (λ (p : Walk (TypedParams × List Parameter)). Goes k gs quiet w (p w) (λ x. IsTypedParams k x.0)) (sym (kept.walked-params Params-F.VoidAlone)) (ends k gs (λ below. parts.params-VoidAlone k))
   params-met (Params-F.List hs) = λ w.
-      subst (λ (p : Walk _). Goes k gs quiet w (p w) (λ x. IsTypedParams k x.0)) (sym (kept.walked-params (Params-F.List (map (λ (h : MetParam stay grow k gs ahead). h.0) hs))))
+      subst (λ (p : Walk (TypedParams × List Parameter)). Goes k gs quiet w (p w) (λ x. IsTypedParams k x.0)) (sym (kept.walked-params (Params-F.List (map (λ (h : MetParam stay grow k gs ahead). h.0) hs))))
       (after k gs _ _ (within-goes (each_pair (map walked.param (map (λ (h : MetParam stay grow k gs ahead). h.0) hs))) w (params-go hs)) (λ ps v q.
-      ruled k gs _ _ _ (λ few. ends k gs (λ below hps. of_held (λ ys. IsTypedParams k (params.List ys)) (parts.params-List k) ps.0 hps))))
+      ruled k gs broken.Form (nat_le (length ps.1) most_parameters) _ (λ few. ends k gs (λ below hps. of_held (IsTypedParam k) (λ ys. IsTypedParams k (params.List ys)) (parts.params-List k) ps.0 hps))))
 
   -- ---- structs
 
@@ -267,10 +283,14 @@ module _ (stay : UnitsStay) (grow : TablesGrow) (k : Context) (gs : List Ty) (ah
   rule-goes r true = ends k gs (λ below. tt)
   rule-goes r false = never k gs
 
+  member_rules-go : (before : List Member) (x : Name) (t : Ty) (fits : Bool) (w : World) → Goes k gs quiet w (member_rules before x t fits w) (λ u. Unit {0})
+  unfolding member_rules
+  member_rules-go before x t fits w = ruled k gs broken.Unsized (is_member_type w.structs t) _ (λ one. ruled k gs broken.Tag (is_new_member before x) _ (λ two. rule-goes broken.Form fits))
+
   member_type-goes : (before : List Member) (x : Name) (base : Ty) (ls : List Layer) (w : World) → Goes k gs quiet w (member_type before x base ls w) (λ t. Unit {0})
-  unfolding member_type member_rules
-  member_type-goes before x base ls w = finds k gs _ _ _ (λ t is.
-      after k gs {P = λ u. Unit {0}} _ _ (ruled k gs _ _ _ (λ one. ruled k gs _ _ _ (λ two. rule-goes _ _))) (λ u v q. ends k gs (λ below any. tt)))
+  unfolding member_type
+  member_type-goes before x base ls w = finds k gs broken.Unsized (whole_of (shaped w.structs base ls)) _ (λ t is.
+      after k gs _ _ (member_rules-go before x t (results_fit w.structs base ls) w) (λ u v q. ends k gs (λ below any. tt)))
 
   one-goes : (base : Ty) (x : LayeredDeclarator) (before : List Member) (w : World) → Goes k gs quiet w (one_member base x before w) (λ m. IsTypedDeclarator k x.tree → IsTypedDeclared k m.0)
   one-goes base x before w = after k gs _ _ (member_type-goes before x.name base x.layers w) (λ t v q. ends k gs (λ below any hx. parts.declared-made k x.tree t hx))
@@ -287,9 +307,9 @@ module _ (stay : UnitsStay) (grow : TablesGrow) (k : Context) (gs : List Ty) (ah
   pub member-met : (y : Met stay grow k gs ahead MemberDecl-F) → met.MeetsMemberDecl stay grow k gs ahead (roll-MemberDecl (met.plain_member stay grow k gs ahead y))
   member-met y = λ before w.
       subst (λ (p : OfMember). Goes k gs quiet w (p before w) (λ x. IsTypedMember k x.0)) (sym (kept.walked-member (met.plain_member stay grow k gs ahead y)))
-      (after k gs _ _ (y.spec.1 _ w) (λ base v q.
+      (after k gs _ _ (y.spec.1.0 w) (λ base v q.
       after k gs _ _ (declarators-go base.1 y.declarators before v) (λ ds u r.
-      ends k gs (λ below hds hb. of_held (λ ys. IsTypedMember k (roll-TypedMemberDecl (record { spec = base.0; declarators = ys }))) (parts.member-made k base.0 hb) ds.0 hds))))
+      ends k gs (λ below hds hb. of_held (IsTypedDeclared k) (λ ys. IsTypedMember k (roll-TypedMemberDecl (record { spec = base.0; declarators = ys }))) (parts.member-made k base.0 hb) ds.0 hds))))
 
   members-go : (hs : List (MetMemberDecl stay grow k gs ahead)) (before : List Member) (w : World)
       → Goes k gs quiet w (members (map walked.member (map (λ (h : MetMemberDecl stay grow k gs ahead). h.0) hs)) before w) (λ r. AllByRecursion (IsTypedMember k) r.0)
@@ -299,25 +319,43 @@ module _ (stay : UnitsStay) (grow : TablesGrow) (k : Context) (gs : List Ty) (ah
       after k gs _ _ (members-go hs x.1 v) (λ rest u r.
       ends k gs (λ below hrest hx. (hx, hrest))))
 
-  body_tag-goes : (x : Name) (bodies : Bool) (w : World) → Goes k gs quiet w (body_tag x bodies w) (λ n. Unit {0})
-  body_tag-goes x bodies w = after k gs _ _ (tag-goes grow k gs x w) (λ n v q. ruled k gs _ _ _ (λ holds. ends k gs (λ below any. tt)))
+  body_tag-goes : (x : Name) (bodies : Bool) (w : World) → Goes k gs quiet w (body_tag x bodies w) (λ n. bodies ≡ true)
+  body_tag-goes x bodies w = after k gs _ _ (tag-goes grow k gs x w) (λ n v q. ruled k gs broken.Tag (bodies && is_undefined v.structs n) _ (λ holds. ends k gs (λ below any. first_of bodies _ holds)))
 
-  along : (node : _) (bodies : Bool) (w : World) → Goes k gs quiet w (spec_step (with_results walked node) bodies w) (λ x. IsTypedSpec k x.0)
-      → Goes k gs quiet w (walked.spec (roll-Spec node) bodies w) (λ x. IsTypedSpec k x.0)
-  along node bodies w goes = subst (λ (p : Bool → Walk (TypedSpec × Ty)). Goes k gs quiet w (p bodies w) (λ x. IsTypedSpec k x.0)) (sym (kept.walked-spec node)) goes
+  abbrev with_parts : Node Plain Spec-F → Node Found Spec-F
+  with_parts node = map-Spec _ _ _ _ _ _ _ _ _ _ _ _ _ _ _ _ _ _ _ _
+      walked.direct walked.expr walked.param walked.params walked.spec walked.suffix walked.abstract walked.declarator walked.member walked.type_word node
+
+  along : (R : Relation) (node : Node Plain Spec-F) (bodies : Bool) (w : World) → Goes k gs R w (spec_step (with_parts node) bodies w) (λ x. IsTypedSpec k x.0)
+      → Goes k gs R w (walked.spec (roll-Spec node) bodies w) (λ x. IsTypedSpec k x.0)
+  along R node bodies w goes = subst (λ (p : Bool → Walk (TypedSpec × Ty)). Goes k gs R w (p bodies w) (λ x. IsTypedSpec k x.0)) (sym (kept.walked-spec node)) goes
+
+  defines : {A : Type 0} {Q : A → Type 0} {w : World} (o : Outcome (A × World)) → Goes k gs quiet w o Q → Goes k gs defining w o Q
+  defines {A} {Q} {w} o goes = record { found = λ r is sound. let h = goes.found r is sound in (quiet-is_defining w r.1 h.0, h.1, h.2) }
+
+  -- a spec without a body
+  bodiless : (node : Node Plain Spec-F) → ((bodies : Bool) (w : World) → Goes k gs quiet w (spec_step (with_parts node) bodies w) (λ x. IsTypedSpec k x.0)) → met.MeetsSpec stay grow k gs ahead (roll-Spec node)
+  bodiless node goes = (λ w. along quiet node false w (goes false w), λ w. along defining node true w (defines _ (goes true w)))
 
   type_name-goes : (x : Name) (w : World) → Goes k gs quiet w (type_name x w) (λ y. IsTypedSpec k y.0)
-  type_name-goes x w = finds k gs _ _ _ (λ t is. ends k gs (λ below. parts.spec-TypeName k x))
+  type_name-goes x w = finds k gs broken.Undeclared (named_type (meaning_of w.scopes x)) _ (λ t is. ends k gs (λ below. parts.spec-TypeName k x))
+
+  -- no body stands where none may
+  no_tag : (x : Name) (w : World) (o : Outcome (ℕ × World)) → body_tag x false w ≡ o → {B : Type 0} (f : ℕ → Walk B) (Q : B → Type 0) → Goes k gs quiet w (and_then o f) Q
+  no_tag x w (Err e) is f Q = never k gs
+  no_tag x w (Ok r) is f Q = record { found = λ s found sound. absurd (untagged (tag x w) is) }
 
   pub spec-met : (y : Met stay grow k gs ahead Spec-F) → met.MeetsSpec stay grow k gs ahead (roll-Spec (met.plain_spec stay grow k gs ahead y))
-  spec-met Spec-F.Int = λ bodies w. along Spec-F.Int bodies w (ends k gs (λ below. parts.spec-Int k))
-  spec-met Spec-F.Char = λ bodies w. along Spec-F.Char bodies w (ends k gs (λ below. parts.spec-Char k))
-  spec-met Spec-F.Void = λ bodies w. along Spec-F.Void bodies w (ends k gs (λ below. parts.spec-Void k))
-  spec-met (Spec-F.TypeName x) = λ bodies w. along (Spec-F.TypeName x) bodies w (type_name-goes x w)
-  spec-met (Spec-F.Struct x None) = λ bodies w. along (Spec-F.Struct x None) bodies w
-      (after k gs _ _ (tag-goes grow k gs x w) (λ n v q. ends k gs (λ below any. parts.spec-tag k x)))
-  spec-met (Spec-F.Struct x (Some hs)) = λ bodies w. along (Spec-F.Struct x (Some (map (λ (h : MetMemberDecl stay grow k gs ahead). h.0) hs))) bodies w
-      (after k gs _ _ (body_tag-goes x bodies w) (λ n v q.
-      after k gs _ _ (members-go hs [] v) (λ body u r.
+  spec-met Spec-F.Int = bodiless Spec-F.Int (λ bodies w. ends k gs (λ below. parts.spec-Int k))
+  spec-met Spec-F.Char = bodiless Spec-F.Char (λ bodies w. ends k gs (λ below. parts.spec-Char k))
+  spec-met Spec-F.Void = bodiless Spec-F.Void (λ bodies w. ends k gs (λ below. parts.spec-Void k))
+  spec-met (Spec-F.TypeName x) = bodiless (Spec-F.TypeName x) (λ bodies w. type_name-goes x w)
+  spec-met (Spec-F.Struct x None) = bodiless (Spec-F.Struct x None) (λ bodies w.
+      after k gs _ _ (tag-goes grow k gs x w) (λ n v q. ends k gs (λ below any. parts.spec-tag k x)))
+  spec-met (Spec-F.Struct x (Some hs)) =
+      (λ w. along quiet (Spec-F.Struct x (Some (map (λ (h : MetMemberDecl stay grow k gs ahead). h.0) hs))) false w (no_tag x w (body_tag x false w) refl _ _),
+       λ w. along defining (Spec-F.Struct x (Some (map (λ (h : MetMemberDecl stay grow k gs ahead). h.0) hs))) true w
+      (after k gs _ _ (defines _ (body_tag-goes x true w)) (λ n v q.
+      after k gs _ _ (defines _ (members-go hs [] v)) (λ body u r.
       after k gs _ _ (define-goes grow k gs n body.1 u) (λ _ s m.
-      ends k gs (λ below any hbody any_tag. of_held (λ ys. IsTypedSpec k (spec.Struct x (Some ys))) (parts.spec-body k x) body.0 hbody)))))
+      ends k gs (λ below any hbody any_tag. of_held (IsTypedMember k) (λ ys. IsTypedSpec k (spec.Struct x (Some ys))) (parts.spec-body k x) body.0 hbody))))))

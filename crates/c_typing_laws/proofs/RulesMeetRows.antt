@@ -1,5 +1,5 @@
 -- What the rules of each form give meets its row, where the parts do.
-use Rattle.std.proofs.Common.{◌≡◌, ◌∙◌, ℕ, zero, suc, ℤ, Bool, true, false, ◌&&◌, ◌||◌, ◌⊎◌, inl, inr, if◌then◌else◌, IsTrue, List, [], ◌∷◌, ◌++◌, length, map, Option, Some, None, slice_get, Result, Ok, Err, pos, refl, ap, sym, subst}
+use Rattle.std.proofs.Common.{◌≡◌, ◌∙◌, ℕ, zero, suc, ℤ, Bool, true, false, ◌&&◌, ◌||◌, ◌⊎◌, inl, inr, if◌then◌else◌, IsTrue, List, [], ◌∷◌, ◌++◌, length, map, Option, Some, None, slice_get, Result, Ok, Err, pos, nat_eq, refl, ap, sym, subst}
 use Rattle.std.specs.List.{AllByRecursion, list_all}
 use Rattle.std.specs.Option.{option_map, option_or}
 use Rattle.std.specs.Result.{result_ok}
@@ -16,9 +16,9 @@ use Rattle.c_types.specs.declared.ty.FnTy.{FnTy, out-FnTy}
 use Rattle.c_types.specs.declared.ty.Ty.{Ty, out-Ty}
 use Rattle.c_types.specs.declared.ty.Ty.TheVariants as ty
 use Rattle.c_types.specs.declared.ty.Ty.TheOpen.{Ty-F}
-use Rattle.c_types.specs.Kinds.{Outer, is_function}
+use Rattle.c_types.specs.Kinds.{Outer, is_function, target_of}
 use Rattle.c_types.specs.Theorems.{TablesGrow, UnitsStay}
-use Rattle.c_types.specs.Units.{units_of}
+use Rattle.c_types.specs.Units.{has_units, units_of}
 use Rattle.c_typed.specs.declared.entity.BuiltIn.{BuiltIn}
 use Rattle.c_typed.specs.declared.entity.Constant.{Constant}
 use Rattle.c_typed.specs.declared.entity.Constant.TheVariants as constant
@@ -31,6 +31,7 @@ use Rattle.c_typed.specs.declared.expression.TypedDirect.TheOpen.{TypedForm-F}
 use Rattle.c_typed.specs.declared.expression.TypedTypeWord.{TypedTypeWord, out-TypedTypeWord}
 use Rattle.c_typed.specs.declared.unit.Local.{Local}
 use Rattle.c_scope.specs.declared.rule.Rule.{Rule}
+use Rattle.c_scope.specs.declared.rule.Rule.TheVariants as broken
 use Rattle.c_scope.specs.declared.scopes.Binding.{Binding}
 use Rattle.c_scope.specs.declared.scopes.Meaning.{Meaning}
 use Rattle.c_scope.specs.declared.scopes.Meaning.TheVariants as means
@@ -43,15 +44,15 @@ use Rattle.c_scope.specs.Walk.{Outcome, found}
 use Rattle.c_rules.specs.declared.place.Place.{Place}
 use Rattle.c_rules.specs.declared.place.Place.TheVariants.{Callee, Value}
 use Rattle.c_rules.specs.Constants.{as_truth, of_and, of_binary, of_both, of_cast, of_conditional, of_or, of_unary, of_value}
-use Rattle.c_rules.specs.Operators.{FormLayer, constant_of, form_of, type_of, typed}
-use Rattle.c_rules.specs.Rules.{address, addressed_at, arithmetic, arrow, assigned_by, assignment, binary, call, called, called_type, cast, conditional, conditional_type, dereference, dereferenced, identifier, identifier_by, index, indexed, mark_addressed, mark_at,  means_function, member, member_found, mentioned, mentioned_by, named, negation, number, one, plain, pointed, size_of_type, size_of_value, stepped, text, unary_of, updated, variable}
+use Rattle.c_rules.specs.Operators.{FormLayer, chosen, constant_of, form_of, is_assignable, is_integer_value, is_lvalue, is_scalar_value, operated, type_of, typed, value_type}
+use Rattle.c_rules.specs.Rules.{address, addressed_at, all_convert, arithmetic, arrow, assigned_by, assignment, binary, call, called, called_type, cast, conditional, conditional_type, dereference, dereferenced, identifier, identifier_by, index, has_address, indexed, mark_addressed, mark_at, may_be_cast, means_function, member, member_behind, member_found, member_of, mentioned, mentioned_by, named, negation, number, one, operand_rule, plain, pointed, size_of_type, size_of_value, stepped, takes, takes_type, text, unary_of, updated, variable}
 use Rattle.c_typed_rows.specs.Contexts.{Context, global_type, local_addressed, local_type}
-use Rattle.c_typed_rows.specs.Expressions.{AssignmentRow, CallRow, DereferenceRow, ExprLevel, IndexRow, IsTypedExpr, MemberRow, NameRow, NamedAddressed, PlainRow, UnaryRow, UpdateRow, is_value, is_value_at}
+use Rattle.c_typed_rows.specs.Expressions.{AssignmentRow, CallRow, ConditionalRow, DereferenceRow, ExprLevel, IndexRow, IsTypedExpr, MemberRow, NameRow, NamedAddressed, PlainRow, UnaryRow, UpdateRow, is_value, is_value_at}
 use Rattle.c_typing_laws.specs.inner.Goes.{Below, EntityFits, Goes, HaveNoParameter, LocalStands, MeaningFits, MeansNoParameter, ScopesFit, Sound, after, ends, finds, local_types, never, ruled, weaker}
 use Rattle.c_typing_laws.specs.inner.TypedTrees.{IsTypedForm, IsTypedTypeWord}
 use Rattle.c_typing_laws.proofs.RowsStay as stays
 use Rattle.c_typing_laws.proofs.TypedParts as parts
-use Rattle.c_typing_laws.proofs.WorldSteps.{IsQuiet, addressed-there, below-addressed, below-text, below-used, at_seam, changed, defined-now, quiet, quiet-addressed}
+use Rattle.c_typing_laws.proofs.WorldSteps.{IsQuiet, addressed-there, below-addressed, below-text, below-used, at_seam, changed, defined-now, quiet, quiet-addressed, quiet-text, quiet-used}
 
 -- ---- constants
 
@@ -173,7 +174,7 @@ pub one_true : (a : Bool) → IsTrue a → IsTrue (a && true)
 one_true true first = refl
 one_true false first = cc
 
-and_true : (a b : Bool) → IsTrue a → IsTrue b → IsTrue (a && b)
+pub and_true : (a b : Bool) → IsTrue a → IsTrue b → IsTrue (a && b)
 and_true true b first second = second
 and_true false b first second = cc
 
@@ -183,7 +184,7 @@ three_true false b c first second third = cc
 
 typed_at : (ls : List Local) (n : ℕ) (t : Ty) → slice_get (map (λ l. l.ty) ls) n ≡ Some t → (l : Local) × ((slice_get ls n ≡ Some l) × (l.ty ≡ t))
 typed_at [] n t is = cc
-typed_at (l ∷ ls) zero t is = (l, refl, (let same : l.ty ≡ t = cc in same))
+typed_at (l ∷ ls) zero t is = let same : l.ty ≡ t = cc in (l, (refl, same))
 typed_at (l ∷ ls) (suc n) t is = typed_at ls n t is
 
 -- ---- rules
@@ -255,9 +256,6 @@ module _ (stay : UnitsStay) (grow : TablesGrow) (k : Context) (gs : List Ty) (ah
   reads-cast o a (inl c) = inl c
   reads-cast o a (inr is) = inr (cast_constant o a is)
 
-  reads-all : {c : Constant} → C → Reads c
-  reads-all c = inl c
-
   -- ---- names
 
   abbrev pub FoundAt : Place → TypedExpr → Type 0
@@ -281,7 +279,7 @@ module _ (stay : UnitsStay) (grow : TablesGrow) (k : Context) (gs : List Ty) (ah
   function-goes : (x : Name) (o : Option KnownFunction) (w : World) → known_function w.functions x ≡ o → Goes k gs quiet w (mentioned_by x o w) Ready
   unfolding mark_used
   function-goes x None w is = never k gs
-  function-goes x (Some f) w is = changed grow k gs w _ (record { scopes = refl; locals = refl })
+  function-goes x (Some f) w is = changed grow k gs w _ (quiet-used grow k gs w x)
       (λ b. (below-used grow k gs w x b, named-value x entity.Function (ty.Function f.ty) refl tt (λ c. (f.ty, defined-now grow k gs w x f is b, refl))))
 
   -- what is known of a variable's name in a sound world
@@ -314,7 +312,7 @@ module _ (stay : UnitsStay) (grow : TablesGrow) (k : Context) (gs : List Ty) (ah
     pub locals : local_types w ≡ ls
 
   pub here-later : (w v : World) → IsQuiet w v → Here w → Here v
-  here-later w v q here = record { scopes = q.scopes ∙ here.scopes; locals = q.locals ∙ here.locals }
+  here-later w v q here = record { scopes = q.scopes ∙ here.scopes; locals = q.steady.locals ∙ here.locals }
 
   meant-goes : (x : Name) (is_function : Bool) (w : World) → Here w → Sound k gs w
       → Goes k gs quiet w ((if is_function then mentioned x else variable x (meaning_of w.scopes x)) w) Ready
@@ -346,7 +344,7 @@ module _ (stay : UnitsStay) (grow : TablesGrow) (k : Context) (gs : List Ty) (ah
 
   pub text-goes : (bytes : List ℕ) (w : World) → Goes k gs quiet w (text bytes w) Ready
   unfolding text
-  text-goes bytes w = changed grow k gs w _ (record { scopes = refl; locals = refl })
+  text-goes bytes w = changed grow k gs w _ (quiet-text grow k gs w bytes)
       (λ b. (below-text grow k gs w bytes b, made (form.Text bytes (length w.strings)) (TypedForm-F.Text bytes (length w.strings)) _ constant.Other (form.outs-Text bytes (length w.strings)) refl tt
       (λ reads. (parts.form-Text k bytes (length w.strings), record { row = (record { object = b.strings (length w.strings) bytes (at_seam w.strings bytes); ty = refl }, refl); values = refl }))))
 
@@ -354,34 +352,38 @@ module _ (stay : UnitsStay) (grow : TablesGrow) (k : Context) (gs : List Ty) (ah
 
   pub binary-goes : (x y : TypedExpr) (o : BinaryOperator) (w : World) → Goes k gs quiet w (binary x o y w) (λ z. Ready x × Ready y → Ready z)
   unfolding binary
-  binary-goes x y o w = finds k gs _ _ _ (λ t is. ends k gs (λ b both.
+  binary-goes x y o w = finds k gs (operand_rule o) (operated w.structs o x y) _ (λ t is. ends k gs (λ b both.
       made (form.Binary x o y) (TypedForm-F.Binary x o y) t _ (form.outs-Binary x o y) refl tt (λ reads.
       let r = reads-both o (constant_of x) (constant_of y) reads in
       (parts.form-Binary k x o y (both.0.typed r.0) (both.1.typed r.1),
        record { row = (stays.operated-stays stay w.structs k.structs b.structs o x y t is, refl); values = two_true (is_value x) (is_value y) both.0.value both.1.value }))))
 
+  chosen-goes : (e x y : TypedExpr) (w : World) → Goes k gs quiet w (conditional_type e x y w) (ConditionalRow e x y)
+  unfolding conditional_type
+  chosen-goes e x y w = finds k gs broken.Operands (chosen x y) _ (λ t is. ruled k gs broken.NotScalar (is_scalar_value e) _ (λ scalar. ends k gs (λ b. record { scalar = scalar; chosen = is })))
+
   pub conditional-goes : (e x y : TypedExpr) (w : World) → Goes k gs quiet w (conditional e x y w) (λ z. Ready e × Ready x × Ready y → Ready z)
-  unfolding conditional conditional_type
-  conditional-goes e x y w = after k gs _ _ (finds k gs _ _ _ (λ t is. ruled k gs _ _ _ (λ scalar. ends k gs (λ b. (scalar, is))))) (λ t v quiet_so. ends k gs (λ b h all.
+  unfolding conditional
+  conditional-goes e x y w = after k gs _ _ (chosen-goes e x y w) (λ t v quiet_so. ends k gs (λ b row all.
       made (form.Conditional e x y) (TypedForm-F.Conditional e x y) t _ (form.outs-Conditional e x y) refl tt (λ reads.
       let r = reads-conditional (constant_of e) (constant_of x) (constant_of y) reads in
       (parts.form-Conditional k e x y (all.0.typed r.0) (all.1.typed r.1) (all.2.typed r.2),
-       record { row = (record { scalar = h.0; chosen = h.1 }, refl); values = three_true (is_value e) (is_value x) (is_value y) all.0.value all.1.value all.2.value }))))
+       record { row = (row, refl); values = three_true (is_value e) (is_value x) (is_value y) all.0.value all.1.value all.2.value }))))
 
   -- ---- casts and sizes
 
   pub cast-goes : (t : TypedTypeWord) (x : TypedExpr) (w : World) → Goes k gs quiet w (cast t x w) (λ z. IsTypedTypeWord k t × Ready x → Ready z)
   unfolding cast
-  cast-goes t x w = ruled k gs _ _ _ (λ castable. ends k gs (λ b both.
+  cast-goes t x w = ruled k gs broken.Cast (may_be_cast x (out-TypedTypeWord t).ty) _ (λ castable. ends k gs (λ b both.
       made (form.Cast t x) (TypedForm-F.Cast t x) (out-TypedTypeWord t).ty _ (form.outs-Cast t x) refl tt (λ reads.
       (parts.form-Cast k t x both.0 (both.1.typed (reads-cast (out-Ty (out-TypedTypeWord t).ty) (constant_of x) reads)),
        record { row = (record { castable = castable; ty = refl }, refl); values = one_true (is_value x) both.1.value }))))
 
   pub size_of_value-goes : (x : TypedExpr) (w : World) → Goes k gs quiet w (size_of_value x w) (λ z. Ready x → Ready z)
   unfolding size_of_value
-  size_of_value-goes x w = ruled k gs _ _ _ (λ units. ends k gs (λ b hx.
+  size_of_value-goes x w = ruled k gs broken.Unsized (has_units w.structs (type_of x)) _ (λ units. ends k gs (λ b hx.
       made (form.SizeofExpr x) (TypedForm-F.SizeofExpr x) ty.Int constant.Other (form.outs-SizeofExpr x) refl tt (λ reads.
-      (parts.form-SizeofExpr k x (hx.typed (reads-all (only_scope reads))),
+      (parts.form-SizeofExpr k x (hx.typed (inl (only_scope reads))),
        record { row = (record { units = stays.has_units-stays stay w.structs k.structs b.structs (type_of x) units; ty = refl }, refl); values = one_true (is_value x) hx.value }))))
 
   answered_units : (r : Result ℕ LayoutRefusal) (n : ℕ) → result_ok r ≡ Some n → r ≡ Ok n
@@ -390,21 +392,24 @@ module _ (stay : UnitsStay) (grow : TablesGrow) (k : Context) (gs : List Ty) (ah
 
   pub size_of_type-goes : (t : TypedTypeWord) (w : World) → Goes k gs quiet w (size_of_type t w) (λ z. IsTypedTypeWord k t → Ready z)
   unfolding size_of_type
-  size_of_type-goes t w = finds k gs _ _ _ (λ n is. ends k gs (λ b ht.
+  size_of_type-goes t w = finds k gs broken.Unsized (result_ok (units_of w.structs (out-TypedTypeWord t).ty)) _ (λ n is. ends k gs (λ b ht.
       made (form.SizeofType t) (TypedForm-F.SizeofType t) ty.Int (constant.Value (pos n)) (form.outs-SizeofType t) refl tt (λ reads.
       (parts.form-SizeofType k t ht,
        record { row = record { units = n; are = stays.units_of-stays stay w.structs k.structs b.structs (out-TypedTypeWord t).ty n (answered_units (units_of w.structs (out-TypedTypeWord t).ty) n is); ty = refl; value = refl }; values = refl }))))
 
   -- ---- pointers
 
+  indexed-goes : (x i : TypedExpr) (w : World) → Goes k gs quiet w (indexed x i w) (IndexRow k x i)
+  unfolding indexed pointed
+  indexed-goes x i w = ruled k gs broken.Operands (is_integer_value i) _ (λ integer. finds k gs broken.Pointer (target_of (value_type x)) _ (λ t is. ruled k gs broken.Pointer (has_units w.structs t) _ (λ units. ends k gs (λ b.
+      record { integer = integer; target = is; units = stays.has_units-stays stay w.structs k.structs b.structs t units }))))
+
   pub index-goes : (x i : TypedExpr) (w : World) → Goes k gs quiet w (index x i w) (λ z. Ready x × Ready i → Ready z)
-  unfolding index indexed pointed
-  index-goes x i w =
-      after k gs {P = λ t. IndexRow k x i t} _ _ (ruled k gs _ _ _ (λ integer. finds k gs _ _ _ (λ t is. ruled k gs _ _ _ (λ units. ends k gs (λ b.
-      record { integer = integer; target = is; units = stays.has_units-stays stay w.structs k.structs b.structs t units }))))) (λ t v quiet_so. ends k gs (λ b row both.
+  unfolding index
+  index-goes x i w = after k gs _ _ (indexed-goes x i w) (λ t v quiet_so. ends k gs (λ b row both.
       made (form.Index x i) (TypedForm-F.Index x i) t constant.Other (form.outs-Index x i) refl tt (λ reads.
       let c = only_scope reads in
-      (parts.form-Index k x i (both.0.typed (reads-all c)) (both.1.typed (reads-all c)),
+      (parts.form-Index k x i (both.0.typed (inl c)) (both.1.typed (inl c)),
        record { row = (row, refl); values = two_true (is_value x) (is_value i) both.0.value both.1.value }))))
 
   unary-made : (o : UnaryOperator) (x : TypedExpr) (t : Ty) → UnaryRow k o x t → Ready x → Ready (typed (form.Unary o x) t (of_unary o (constant_of x)))
@@ -412,24 +417,26 @@ module _ (stay : UnitsStay) (grow : TablesGrow) (k : Context) (gs : List Ty) (ah
       (parts.form-Unary k o x (hx.typed (reads-unary o (constant_of x) reads)),
        record { row = (row, refl); values = one_true (is_value x) hx.value }))
 
+  dereferenced-goes : (x : TypedExpr) (w : World) → Goes k gs quiet w (dereferenced x w) (DereferenceRow k x)
+  unfolding dereferenced pointed
+  dereferenced-goes x w = finds k gs broken.Pointer (target_of (value_type x)) _ (λ t is. ruled k gs broken.Pointer (is_function t || has_units w.structs t) _ (λ units. ends k gs (λ b.
+      record { target = is; units = stays.known_or_units-stays stay w.structs k.structs b.structs (is_function t) t units })))
+
   dereference-goes : (x : TypedExpr) (w : World) → Goes k gs quiet w (dereference x w) (λ z. Ready x → Ready z)
-  unfolding dereference dereferenced pointed
-  dereference-goes x w =
-      after k gs {P = λ t. DereferenceRow k x t} _ _ (finds k gs _ _ _ (λ t is. ruled k gs _ _ _ (λ units. ends k gs (λ b.
-      record { target = is; units = stays.known_or_units-stays stay w.structs k.structs b.structs (is_function t) t units })))) (λ t v quiet_so. ends k gs (λ b row hx.
-      unary-made unary.Dereference x t row hx))
+  unfolding dereference
+  dereference-goes x w = after k gs _ _ (dereferenced-goes x w) (λ t v quiet_so. ends k gs (λ b row hx. unary-made unary.Dereference x t row hx))
 
   negation-goes : (x : TypedExpr) (w : World) → Goes k gs quiet w (negation x w) (λ z. Ready x → Ready z)
   unfolding negation
-  negation-goes x w = ruled k gs _ _ _ (λ scalar. ends k gs (λ b hx. unary-made unary.Not x ty.Int (record { scalar = scalar; ty = refl }) hx))
+  negation-goes x w = ruled k gs broken.NotScalar (is_scalar_value x) _ (λ scalar. ends k gs (λ b hx. unary-made unary.Not x ty.Int (record { scalar = scalar; ty = refl }) hx))
 
   negate-goes : (x : TypedExpr) (w : World) → Goes k gs quiet w (arithmetic unary.Negate x w) (λ z. Ready x → Ready z)
   unfolding arithmetic
-  negate-goes x w = ruled k gs _ _ _ (λ integer. ends k gs (λ b hx. unary-made unary.Negate x ty.Int (record { integer = integer; ty = refl }) hx))
+  negate-goes x w = ruled k gs broken.Operands (is_integer_value x) _ (λ integer. ends k gs (λ b hx. unary-made unary.Negate x ty.Int (record { integer = integer; ty = refl }) hx))
 
   complement-goes : (x : TypedExpr) (w : World) → Goes k gs quiet w (arithmetic unary.Complement x w) (λ z. Ready x → Ready z)
   unfolding arithmetic
-  complement-goes x w = ruled k gs _ _ _ (λ integer. ends k gs (λ b hx. unary-made unary.Complement x ty.Int (record { integer = integer; ty = refl }) hx))
+  complement-goes x w = ruled k gs broken.Operands (is_integer_value x) _ (λ integer. ends k gs (λ b hx. unary-made unary.Complement x ty.Int (record { integer = integer; ty = refl }) hx))
 
   -- ---- addresses
 
@@ -451,7 +458,7 @@ module _ (stay : UnitsStay) (grow : TablesGrow) (k : Context) (gs : List Ty) (ah
 
   address-goes : (x : TypedExpr) (w : World) → Here w → Goes k gs quiet w (address x w) (λ z. Ready x → Ready z)
   unfolding address mark_addressed
-  address-goes x w here = ruled k gs _ _ _ (λ lvalue. after k gs _ _ (mark_at-goes (out-TypedForm (form_of x)) w here.locals) (λ u v quiet_so. ends k gs (λ b marked hx.
+  address-goes x w here = ruled k gs broken.NotLvalue (has_address x) _ (λ lvalue. after k gs _ _ (mark_at-goes (out-TypedForm (form_of x)) w here.locals) (λ u v quiet_so. ends k gs (λ b marked hx.
       unary-made unary.Address x (ty.Pointer (type_of x)) (record { lvalue = lvalue; addressed = marked hx.there; ty = refl }) hx)))
 
   pub unary-goes : (o : UnaryOperator) (x : TypedExpr) (w : World) → Here w → Goes k gs quiet w (unary_of o x w) (λ z. Ready x → Ready z)
@@ -468,18 +475,22 @@ module _ (stay : UnitsStay) (grow : TablesGrow) (k : Context) (gs : List Ty) (ah
   found-goes r None holds = never k gs
   found-goes r (Some a) holds = ends k gs (holds a refl)
 
+  member_found-goes : (x : TypedExpr) (n : Name) (w : World) → Goes k gs quiet w (member_found x n w) (λ m. MemberRow k x n m.0 m.1)
+  unfolding member_found
+  member_found-goes x n w = ruled k gs broken.Member (is_lvalue x) _ (λ lvalue. found-goes broken.Member (member_of w.structs n (type_of x)) (λ m is b.
+      record { lvalue = lvalue; member = stays.member_of-stays stay w.structs k.structs b.structs n (type_of x) m is }))
+
   pub member-goes : (x : TypedExpr) (n : Name) (w : World) → Goes k gs quiet w (member x n w) (λ z. Ready x → Ready z)
-  unfolding member member_found
-  member-goes x n w =
-      after k gs {P = λ m. MemberRow k x n m.0 m.1} _ _ (ruled k gs _ _ _ (λ lvalue. found-goes _ _ (λ m is b. record { lvalue = lvalue; member = stays.member_of-stays stay w.structs k.structs b.structs n (type_of x) m is }))) (λ m v quiet_so. ends k gs (λ b row hx.
+  unfolding member
+  member-goes x n w = after k gs _ _ (member_found-goes x n w) (λ m v quiet_so. ends k gs (λ b row hx.
       made (form.Member x n m.0) (TypedForm-F.Member x n m.0) m.1 constant.Other (form.outs-Member x n m.0) refl tt (λ reads.
-      (parts.form-Member k x n m.0 (hx.typed (reads-all (only_scope reads))), record { row = (row, refl); values = one_true (is_value x) hx.value }))))
+      (parts.form-Member k x n m.0 (hx.typed (inl (only_scope reads))), record { row = (row, refl); values = one_true (is_value x) hx.value }))))
 
   pub arrow-goes : (x : TypedExpr) (n : Name) (w : World) → Goes k gs quiet w (arrow x n w) (λ z. Ready x → Ready z)
   unfolding arrow
-  arrow-goes x n w = finds k gs _ _ _ (λ m is. ends k gs (λ b hx.
+  arrow-goes x n w = finds k gs broken.Member (member_behind w.structs x n) _ (λ m is. ends k gs (λ b hx.
       made (form.Arrow x n m.0) (TypedForm-F.Arrow x n m.0) m.1 constant.Other (form.outs-Arrow x n m.0) refl tt (λ reads.
-      (parts.form-Arrow k x n m.0 (hx.typed (reads-all (only_scope reads))),
+      (parts.form-Arrow k x n m.0 (hx.typed (inl (only_scope reads))),
        record { row = (stays.member_behind-stays stay w.structs k.structs b.structs x n m is, refl); values = one_true (is_value x) hx.value }))))
 
   -- ---- calls
@@ -497,17 +508,22 @@ module _ (stay : UnitsStay) (grow : TablesGrow) (k : Context) (gs : List Ty) (ah
   held c (y ∷ ys) hs = (y, hs.0.typed (inl c)) ∷ held c ys hs.1
 
   held-are : (c : C) (ys : List TypedExpr) (hs : AllByRecursion Ready ys) → map (λ h. h.0) (held c ys hs) ≡ ys
+  unfolding held
   held-are c [] hs = refl
   held-are c (y ∷ ys) hs = ap (λ zs. y ∷ zs) (held-are c ys hs.1)
 
   call-form : (x : TypedExpr) (ys : List TypedExpr) → C → Callable x → AllByRecursion Ready ys → IsTypedForm k (form.Call x ys)
   call-form x ys c hx hs = subst (λ zs. IsTypedForm k (form.Call x zs)) (held-are c ys hs) (parts.form-Call k x (hx (inl c)) (held c ys hs))
 
+  called-goes : (x : TypedExpr) (ys : List TypedExpr) (w : World) → Goes k gs quiet w (called x ys w) (CallRow x ys)
+  unfolding called
+  called-goes x ys w = finds k gs broken.Call (called_type x) _ (λ f is. ruled k gs broken.Unconverted (all_convert ys (out-FnTy f).params) _ (λ convert.
+      ruled k gs broken.Call (nat_eq (length ys) (length (out-FnTy f).params)) _ (λ count. ends k gs (λ b.
+      record { callee = f; called = is; convert = convert; count = count; ty = refl }))))
+
   pub call-goes : (x : TypedExpr) (ys : List TypedExpr) (w : World) → Goes k gs quiet w (call x ys w) (λ z. Callable x × AllByRecursion Ready ys → Ready z)
-  unfolding call called
-  call-goes x ys w =
-      after k gs {P = λ t. CallRow x ys t} _ _ (finds k gs _ _ _ (λ f is. ruled k gs _ _ _ (λ convert. ruled k gs _ _ _ (λ count. ends k gs (λ b.
-      record { callee = f; called = is; convert = convert; count = count; ty = refl }))))) (λ t v quiet_so. ends k gs (λ b row both.
+  unfolding call
+  call-goes x ys w = after k gs _ _ (called-goes x ys w) (λ t v quiet_so. ends k gs (λ b row both.
       made (form.Call x ys) (TypedForm-F.Call x ys) t constant.Other (form.outs-Call x ys) refl tt (λ reads.
       let c = only_scope reads in
       (call-form x ys c both.0 both.1, record { row = (row, refl); values = values-of ys both.1 }))))
@@ -516,11 +532,11 @@ module _ (stay : UnitsStay) (grow : TablesGrow) (k : Context) (gs : List Ty) (ah
 
   plain-goes : (x y : TypedExpr) (w : World) → Goes k gs quiet w (plain x y w) (λ t. PlainRow x y t)
   unfolding plain
-  plain-goes x y w = ruled k gs _ _ _ (λ converts. ruled k gs _ _ _ (λ lvalue. ends k gs (λ b. record { converts = converts; lvalue = lvalue; ty = refl })))
+  plain-goes x y w = ruled k gs broken.Unconverted (takes x y) _ (λ converts. ruled k gs broken.NotLvalue (is_assignable x) _ (λ lvalue. ends k gs (λ b. record { converts = converts; lvalue = lvalue; ty = refl })))
 
   updated-goes : (o : BinaryOperator) (x y : TypedExpr) (w : World) → Goes k gs quiet w (updated o x y w) (λ t. UpdateRow k o x y t)
   unfolding updated
-  updated-goes o x y w = finds k gs _ _ _ (λ t is. ruled k gs _ _ _ (λ converts. ruled k gs _ _ _ (λ lvalue. ends k gs (λ b.
+  updated-goes o x y w = finds k gs broken.Operands (operated w.structs o x y) _ (λ t is. ruled k gs broken.Unconverted (takes_type x t) _ (λ converts. ruled k gs broken.NotLvalue (is_assignable x) _ (λ lvalue. ends k gs (λ b.
       record { value = t; operated = stays.operated-stays stay w.structs k.structs b.structs o x y t is; converts = converts; lvalue = lvalue; ty = refl }))))
 
   assigned-goes : (x y : TypedExpr) (o : Option BinaryOperator) (w : World) → Goes k gs quiet w (assigned_by x y o w) (λ t. AssignmentRow k o x y t)
@@ -532,7 +548,7 @@ module _ (stay : UnitsStay) (grow : TablesGrow) (k : Context) (gs : List Ty) (ah
   assignment-goes x y a w = after k gs _ _ (assigned-goes x y (binary_operator a) w) (λ t v quiet_so. ends k gs (λ b row both.
       made (form.Assign x a y) (TypedForm-F.Assign x a y) t constant.Other (form.outs-Assign x a y) refl tt (λ reads.
       let c = only_scope reads in
-      (parts.form-Assign k x a y (both.0.typed (reads-all c)) (both.1.typed (reads-all c)),
+      (parts.form-Assign k x a y (both.0.typed (inl c)) (both.1.typed (inl c)),
        record { row = (row, refl); values = two_true (is_value x) (is_value y) both.0.value both.1.value }))))
 
   -- `++` and `--`, of a form whose row this is
@@ -542,4 +558,4 @@ module _ (stay : UnitsStay) (grow : TablesGrow) (k : Context) (gs : List Ty) (ah
       → Goes k gs quiet w (stepped o f x w) (λ z. Ready x → Ready z)
   unfolding stepped
   stepped-goes o f node x w is value there forms level = after k gs _ _ (updated-goes o x one w) (λ t v quiet_so. ends k gs (λ b row hx.
-      made (f x) (node x) t constant.Other is value there (λ reads. (forms (hx.typed (reads-all (only_scope reads))), level t row hx))))
+      made (f x) (node x) t constant.Other is value there (λ reads. (forms (hx.typed (inl (only_scope reads))), level t row hx))))

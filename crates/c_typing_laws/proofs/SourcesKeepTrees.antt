@@ -49,7 +49,7 @@ module _ (laws : WalksKeepTrees) where
   parts-keep base d b w =
       whatever (define_function base d w) _ (λ f v.
       after (function_body d.layers f b v) _ (body-keeps d.layers f b v) (λ body u is.
-      whatever (take_locals u) _ (λ ls t. at_once is)))
+      whatever (take_locals u) _ (λ ls t. at_once {a = (f, ls, body)} {w = t} is)))
 
   function-keeps : (s : TypedSpec) (base : Ty) (d : Declarator) (b : Block) (w : World)
       → Yields (typed_function s base d b w) (FunctionKept s d b)

@@ -1,8 +1,9 @@
 -- What the changes of a world leave of it: a context that has all that is known behind one has what was known before.
-use Rattle.std.proofs.Common.{◌≡◌, ◌≤◌, ◌∙◌, ℕ, zero, suc, Bool, true, false, not, ◌||◌, ◌&&◌, ◌<◌, if◌then◌else◌, IsTrue, List, [], ◌∷◌, ◌++◌, length, map, Option, Some, None, slice_get, is_none, Ok, Err, refl, ap, sym, subst, arith}
+use Rattle.std.proofs.Common.{◌≡◌, ◌≤◌, ◌∙◌, ℕ, zero, suc, Bool, true, false, not, ◌||◌, ◌&&◌, ◌<◌, if◌then◌else◌, IsTrue, List, [], ◌∷◌, ◌++◌, length, map, Option, Some, None, slice_get, is_none, nat_lt, Ok, Err, refl, ap, sym, subst, arith}
 use Rattle.std.specs.Option.{option_map, option_and_then}
 use Rattle.std.specs.Str.{bytes_eq}
 use Rattle.std.proofs.lemmas.Option.{slice_get_within}
+use Rattle.c_types.specs.declared.ty.FnTy.{FnTy}
 use Rattle.c_types.specs.declared.structs.Member.{Member}
 use Rattle.c_types.specs.declared.structs.StructDef.{StructDef}
 use Rattle.c_types.specs.declared.ty.Ty.{Ty}
@@ -17,7 +18,7 @@ use Rattle.c_scope.specs.declared.world.World.{World}
 use Rattle.c_scope.specs.BuiltIns.{Name}
 use Rattle.c_scope.specs.Declarations.{define, is_undefined, is_undefined_at}
 use Rattle.c_scope.specs.Definitions.{mark_used, marked}
-use Rattle.c_scope.specs.Scopes.{known_function, new_tag, outer, tag, tag_by, with_function}
+use Rattle.c_scope.specs.Scopes.{known_function, most_tags, new_tag, outer, tag, tag_by, with_function}
 use Rattle.c_scope.specs.Walk.{Outcome}
 use Rattle.c_rules.specs.Rules.{addressed_at}
 use Rattle.c_typed_rows.specs.Contexts.{Context, defined_as}
@@ -25,32 +26,73 @@ use Rattle.c_typing_laws.specs.inner.Goes.{Below, Goes, LocalStands, Relation, S
 
 -- ---- relations
 
--- scopes and the types of locals stay
+-- the type of a function that is defined
+abbrev pub defined_by : Option KnownFunction → Option FnTy
+defined_by None = None
+defined_by (Some f) = if f.is_defined then Some f.ty else None
+
+abbrev pub defined_in : List KnownFunction → Name → Option FnTy
+defined_in fs x = defined_by (known_function fs x)
+
+-- the types of locals and the number of globals stay, and no function is defined
+pub record IsSteady (w v : World) : Type 0 where
+  pub locals : local_types v ≡ local_types w
+  pub globals : v.globals ≡ w.globals
+  pub defined : (x : Name) (f : FnTy) → defined_in v.functions x ≡ Some f → defined_in w.functions x ≡ Some f
+
+pub steady-same : (w : World) → IsSteady w w
+steady-same w = record { locals = refl; globals = refl; defined = λ x f is. is }
+
+pub steady-joined : (w v u : World) → IsSteady w v → IsSteady v u → IsSteady w u
+steady-joined w v u first second = record {
+  locals = second.locals ∙ first.locals;
+  globals = second.globals ∙ first.globals;
+  defined = λ x f is. first.defined x f (second.defined x f is);
+}
+
+-- scopes and bodies of structs stay too
 pub record IsQuiet (w v : World) : Type 0 where
   pub scopes : v.scopes ≡ w.scopes
-  pub locals : local_types v ≡ local_types w
+  pub bodies : (s : ℕ) → body_of v.structs s ≡ body_of w.structs s
+  pub steady : IsSteady w v
 
 abbrev pub quiet : Relation
 quiet = record {
   holds = IsQuiet;
-  same = λ w. record { scopes = refl; locals = refl };
-  joined = λ w v u first second. record { scopes = second.scopes ∙ first.scopes; locals = second.locals ∙ first.locals };
+  same = λ w. record { scopes = refl; bodies = λ s. refl; steady = steady-same w };
+  joined = λ w v u first second. record { scopes = second.scopes ∙ first.scopes; bodies = λ s. second.bodies s ∙ first.bodies s; steady = steady-joined w v u first.steady second.steady };
 }
 
--- the scopes outside the innermost stay, and the types of locals
+-- the scopes outside the innermost stay
 pub record IsInner (w v : World) : Type 0 where
   pub scopes : outer v.scopes ≡ outer w.scopes
-  pub locals : local_types v ≡ local_types w
+  pub bodies : (s : ℕ) → body_of v.structs s ≡ body_of w.structs s
+  pub steady : IsSteady w v
 
 abbrev pub inner : Relation
 inner = record {
   holds = IsInner;
-  same = λ w. record { scopes = refl; locals = refl };
-  joined = λ w v u first second. record { scopes = second.scopes ∙ first.scopes; locals = second.locals ∙ first.locals };
+  same = λ w. record { scopes = refl; bodies = λ s. refl; steady = steady-same w };
+  joined = λ w v u first second. record { scopes = second.scopes ∙ first.scopes; bodies = λ s. second.bodies s ∙ first.bodies s; steady = steady-joined w v u first.steady second.steady };
+}
+
+-- structs may get bodies
+pub record IsDefining (w v : World) : Type 0 where
+  pub scopes : v.scopes ≡ w.scopes
+  pub steady : IsSteady w v
+
+abbrev pub defining : Relation
+defining = record {
+  holds = IsDefining;
+  same = λ w. record { scopes = refl; steady = steady-same w };
+  joined = λ w v u first second. record { scopes = second.scopes ∙ first.scopes; steady = steady-joined w v u first.steady second.steady };
 }
 
 pub quiet-is_inner : (w v : World) → IsQuiet w v → IsInner w v
-quiet-is_inner w v q = record { scopes = ap outer q.scopes; locals = q.locals }
+quiet-is_inner w v q = record { scopes = ap outer q.scopes; bodies = q.bodies; steady = q.steady }
+
+pub quiet-is_defining : (w v : World) → IsQuiet w v → IsDefining w v
+quiet-is_defining w v q = record { scopes = q.scopes; steady = q.steady }
 
 -- ---- lists
 
@@ -62,6 +104,13 @@ in_front (y ∷ xs) ys (suc n) x is = in_front xs ys n x is
 pub at_seam : {A : Type 0} (xs : List A) (x : A) → slice_get (xs ++ x ∷ []) (length xs) ≡ Some x
 at_seam [] x = refl
 at_seam (y ∷ xs) x = at_seam xs x
+
+-- a new struct has no body
+tagged-bodies : (defs : List StructDef) (x : Name) (s : ℕ) → body_of (with_tag defs x) s ≡ body_of defs s
+tagged-bodies [] x zero = refl
+tagged-bodies [] x (suc s) = refl
+tagged-bodies (d ∷ ds) x zero = refl
+tagged-bodies (d ∷ ds) x (suc s) = tagged-bodies ds x s
 
 -- ---- functions
 
@@ -97,6 +146,28 @@ with_marked false j js changed y f rest is = marked_later j js changed y f (byte
 used-stays : (ks : List KnownFunction) (x y : Name) (f : KnownFunction) → known_function ks y ≡ Some f → MarkedAs f (known_function (with_function (marked true false) ks x) y)
 used-stays [] x y f is = cc
 used-stays (j ∷ js) x y f is = with_marked (bytes_eq j.name x) j js (with_function (marked true false) js x) y f (used-stays js x y f) is
+
+-- a mark that a function is used defines none
+defined_here : (j : KnownFunction) (js : List KnownFunction) (y : Name) (named : Bool)
+    → defined_by (if named then Some (marked true false j) else known_function js y) ≡ defined_by (if named then Some j else known_function js y)
+unfolding marked
+defined_here j js y true = refl
+defined_here j js y false = refl
+
+defined_later : (j : KnownFunction) (js changed : List KnownFunction) (y : Name) (named : Bool) → defined_by (known_function changed y) ≡ defined_by (known_function js y)
+    → defined_by (if named then Some j else known_function changed y) ≡ defined_by (if named then Some j else known_function js y)
+defined_later j js changed y true rest = refl
+defined_later j js changed y false rest = rest
+
+defined_so : (here : Bool) (j : KnownFunction) (js changed : List KnownFunction) (y : Name) → defined_in changed y ≡ defined_in js y
+    → defined_in (if here then marked true false j ∷ js else j ∷ changed) y ≡ defined_in (j ∷ js) y
+unfolding marked
+defined_so true j js changed y rest = defined_here j js y (bytes_eq j.name y)
+defined_so false j js changed y rest = defined_later j js changed y (bytes_eq j.name y) rest
+
+used-defined : (ks : List KnownFunction) (x y : Name) → defined_in (with_function (marked true false) ks x) y ≡ defined_in ks y
+used-defined [] x y = refl
+used-defined (j ∷ js) x y = defined_so (bytes_eq j.name x) j js (with_function (marked true false) js x) y (used-defined js x y)
 
 -- the function that is marked is used
 abbrev UsedAs : KnownFunction → Option KnownFunction → Type 0
@@ -134,7 +205,7 @@ addressed-stays (suc n) (j ∷ ls) (suc m) l is = addressed-stays n ls m l is
 -- a local of this number is one whose address is taken
 pub addressed-there : (n : ℕ) (ls : List Local) (l : Local) → slice_get ls n ≡ Some l → (m : Local) × ((slice_get (addressed_at n ls) n ≡ Some m) × (m.is_addressed ≡ true))
 addressed-there n [] l is = cc
-addressed-there zero (j ∷ ls) l is = (record j { is_addressed = true }, refl, refl)
+addressed-there zero (j ∷ ls) l is = (record j { is_addressed = true }, (refl, refl))
 addressed-there (suc n) (j ∷ ls) l is = addressed-there n ls l is
 
 stands-joined : (l m : Local) (o : Option Local) → (m.ty ≡ l.ty) × (l.is_addressed ≡ true → m.is_addressed ≡ true) → LocalStands m o → LocalStands l o
@@ -144,9 +215,12 @@ stands-joined l m (Some n) first second = (second.0 ∙ first.0, λ was. second.
 -- ---- worlds
 
 module _ (grow : TablesGrow) (k : Context) (gs : List Ty) where
+  sound-kept : (w v : World) → v.scopes ≡ w.scopes → IsSteady w v → Sound k gs w → Sound k gs v
+  sound-kept w v scopes steady sound =
+      subst (λ ss. ScopesFit gs (local_types v) ss) (sym scopes) (subst (λ ls. ScopesFit gs ls w.scopes) (sym steady.locals) sound)
+
   pub sound-quiet : (w v : World) → IsQuiet w v → Sound k gs w → Sound k gs v
-  sound-quiet w v q sound =
-      subst (λ ss. ScopesFit gs (local_types v) ss) (sym q.scopes) (subst (λ ls. ScopesFit gs ls w.scopes) (sym q.locals) sound)
+  sound-quiet w v q sound = sound-kept w v q.scopes q.steady sound
 
   extends-joined : (a b c : List StructDef) → Extends a b → Extends b c → Extends a c
   extends-joined a b c first second = record {
@@ -164,6 +238,17 @@ module _ (grow : TablesGrow) (k : Context) (gs : List Ty) where
 
   pub changed : {A : Type 0} {Q : A → Type 0} {a : A} (w v : World) → IsQuiet w v → (Below k v → Below k w × Q a) → Goes k gs quiet w (Ok (a, v)) Q
   changed {A} {Q} {a} w v q below = record { found = changed_found Q a w v q below }
+
+  -- the same, where structs may get bodies
+  defined_found : {A : Type 0} (Q : A → Type 0) (a : A) (w v : World) → IsDefining w v → (Below k v → Below k w × Q a) → (r : A × World)
+      → (let o : Outcome (A × World) = Ok (a, v) in o) ≡ Ok r → Sound k gs w
+      → IsDefining w r.1 × Sound k gs r.1 × (Below k r.1 → Below k w × Q r.0)
+  defined_found {A} Q a w v q below r is sound =
+      let same : (a, v) ≡ r = cc in
+      subst (λ (s : A × World). IsDefining w s.1 × Sound k gs s.1 × (Below k s.1 → Below k w × Q s.0)) same (q, sound-kept w v q.scopes q.steady sound, below)
+
+  pub redefined : {A : Type 0} {Q : A → Type 0} {a : A} (w v : World) → IsDefining w v → (Below k v → Below k w × Q a) → Goes k gs defining w (Ok (a, v)) Q
+  redefined {A} {Q} {a} w v q below = record { found = defined_found Q a w v q below }
 
   -- a string more
   pub below-text : (w : World) (bytes : List ℕ) → Below k (record w { strings = w.strings ++ bytes ∷ [] }) → Below k w
@@ -224,13 +309,19 @@ module _ (grow : TablesGrow) (k : Context) (gs : List Ty) where
   }
 
   pub quiet-addressed : (w : World) (n : ℕ) → IsQuiet w (record w { locals = addressed_at n w.locals })
-  quiet-addressed w n = record { scopes = refl; locals = addressed-types n w.locals }
+  quiet-addressed w n = record { scopes = refl; bodies = λ s. refl; steady = record { locals = addressed-types n w.locals; globals = refl; defined = λ x f is. is } }
+
+  pub quiet-text : (w : World) (bytes : List ℕ) → IsQuiet w (record w { strings = w.strings ++ bytes ∷ [] })
+  quiet-text w bytes = record { scopes = refl; bodies = λ s. refl; steady = record { locals = refl; globals = refl; defined = λ x f is. is } }
+
+  pub quiet-used : (w : World) (x : Name) → IsQuiet w (record w { functions = with_function (marked true false) w.functions x })
+  quiet-used w x = record { scopes = refl; bodies = λ s. refl; steady = record { locals = refl; globals = refl; defined = λ y f is. sym (used-defined w.functions x y) ∙ is } }
 
   -- ---- tags and bodies of structs
 
   new_tag-goes : (x : Name) (w : World) → Goes k gs quiet w (new_tag x w) (λ n. Unit {0})
-  new_tag-goes x w = ruled k gs broken.Tag _ _ (λ few.
-      changed w (record w { structs = with_tag w.structs x }) (record { scopes = refl; locals = refl }) (λ b. (below-structs w (with_tag w.structs x) (grow.declared w.structs x) b, tt)))
+  new_tag-goes x w = ruled k gs broken.Tag (nat_lt (length w.structs) most_tags) _ (λ few.
+      changed {a = length w.structs} w (record w { structs = with_tag w.structs x }) (record { scopes = refl; bodies = tagged-bodies w.structs x; steady = record { locals = refl; globals = refl; defined = λ y f is. is } }) (λ b. (below-structs w (with_tag w.structs x) (grow.declared w.structs x) b, tt)))
 
   tag_by-goes : (x : Name) (o : Option ℕ) (w : World) → Goes k gs quiet w (tag_by x o w) (λ n. Unit {0})
   tag_by-goes x None w = new_tag-goes x w
@@ -246,7 +337,7 @@ module _ (grow : TablesGrow) (k : Context) (gs : List Ty) where
 
   undefined_by : (o : Option StructDef) → is_undefined_at o ≡ true → (d : StructDef) × ((o ≡ Some d) × (d.members ≡ None))
   undefined_by None is = cc
-  undefined_by (Some d) is = (d, refl, none_of d.members is)
+  undefined_by (Some d) is = (d, (refl, none_of d.members is))
 
   both : (a b : Bool) → (a && b) ≡ true → (a ≡ true) × (b ≡ true)
   both true b is = (refl, is)
@@ -261,8 +352,8 @@ module _ (grow : TablesGrow) (k : Context) (gs : List Ty) where
       let h = undefined_by (slice_get defs n) is in
       grow.defined defs n ms (slice_get_within defs n h.0 h.1.0) (body_of-none defs n h.0 h.1.0 h.1.1)
 
-  pub define-goes : (n : ℕ) (ms : List Member) (w : World) → Goes k gs quiet w (define n ms w) (λ u. Unit {0})
+  pub define-goes : (n : ℕ) (ms : List Member) (w : World) → Goes k gs defining w (define n ms w) (λ u. Unit {0})
   unfolding define
-  define-goes n ms w = ruled k gs broken.Tag _ _ (λ holds.
-      changed w (record w { structs = with_body w.structs n ms }) (record { scopes = refl; locals = refl })
+  define-goes n ms w = ruled k gs broken.Tag (is_undefined w.structs n && are_members w.structs ms) _ (λ holds.
+      redefined w (record w { structs = with_body w.structs n ms }) (record { scopes = refl; steady = record { locals = refl; globals = refl; defined = λ y f is. is } })
       (λ b. (below-structs w (with_body w.structs n ms) (extends-defined w.structs n ms (both (is_undefined w.structs n) (are_members w.structs ms) holds).0) b, tt)))

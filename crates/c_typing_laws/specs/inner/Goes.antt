@@ -75,18 +75,18 @@ module _ (k : Context) (gs : List Ty) where
   pub record Goes (R : Relation) {A : Type 0} (w : World) (o : Outcome (A × World)) (Q : A → Type 0) : Type 0 where
     pub found : (r : A × World) → o ≡ Ok r → Sound w → R.holds w r.1 × Sound r.1 × (Below k r.1 → Below k w × Q r.0)
 
+  abbrev answered : {A : Type 0} → A → World → Outcome (A × World)
+  answered a w = Ok (a, w)
+
+  ends_found : (R : Relation) {A : Type 0} (Q : A → Type 0) (a : A) (w : World) → (Below k w → Q a) → (r : A × World) → answered a w ≡ Ok r → Sound w
+      → R.holds w r.1 × Sound r.1 × (Below k r.1 → Below k w × Q r.0)
+  ends_found R {A = A} Q a w holds r is sound =
+      let same : (a, w) ≡ r = cc in
+      subst (λ (s : A × World). R.holds w s.1 × Sound s.1 × (Below k s.1 → Below k w × Q s.0)) same (R.same w, sound, λ below. (below, holds below))
+
   module _ {R : Relation} where
-    abbrev answered : {A : Type 0} → A → World → Outcome (A × World)
-    answered a w = Ok (a, w)
-
-    ends_found : {A : Type 0} (Q : A → Type 0) (a : A) (w : World) → (Below k w → Q a) → (r : A × World) → answered a w ≡ Ok r → Sound w
-        → R.holds w r.1 × Sound r.1 × (Below k r.1 → Below k w × Q r.0)
-    ends_found Q a w holds r is sound =
-        let same : (a, w) ≡ r = cc in
-        subst (λ (s : A × World). R.holds w s.1 × Sound s.1 × (Below k s.1 → Below k w × Q s.0)) same (R.same w, sound, λ below. (below, holds below))
-
     pub ends : {A : Type 0} {Q : A → Type 0} {a : A} {w : World} → (Below k w → Q a) → Goes R w (Ok (a, w)) Q
-    ends {A} {Q} {a} {w} holds = record { found = ends_found Q a w holds }
+    ends {A} {Q} {a} {w} holds = record { found = ends_found R Q a w holds }
 
     pub never : {A : Type 0} {Q : A → Type 0} {e : Rule} {w : World} → Goes R {A = A} w (Err e) Q
     never = record { found = λ r is. cc }
