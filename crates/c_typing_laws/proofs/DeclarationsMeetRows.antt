@@ -32,7 +32,7 @@ use Rattle.c_scope.specs.declared.world.KnownFunction.{KnownFunction}
 use Rattle.c_scope.specs.declared.world.World.{World}
 use Rattle.c_scope.specs.BuiltIns.{Name, built_in_named}
 use Rattle.c_scope.specs.Declarations.{may_be_declared}
-use Rattle.c_scope.specs.Definitions.{bind_function, declare_function, declare_function_by, declare_variable, is_bound_here, make_known_by}
+use Rattle.c_scope.specs.Definitions.{bind_function, declare_function, declare_function_by, declare_variable, is_bound_here, make_known, make_known_by}
 use Rattle.c_scope.specs.Scopes.{bind, bound_in, known_function, outer}
 use Rattle.c_scope.specs.Walk.{Outcome, ◌>>◌, and_then, each, maybe, pure, rule}
 use Rattle.c_expr_typing.specs.declared.layered.LayeredDeclarator.{LayeredDeclarator}
@@ -164,7 +164,7 @@ declared-ty : (d : TypedDeclarator) (t : Ty) → (out-Declared (declared d t)).t
 declared-ty d t = ap (λ e. e.ty) (out-roll-Declared (record { declarator = d; ty = t }))
 
 module _ (stay : UnitsStay) (grow : TablesGrow) (k : Context) (gs : List Ty) (ahead : (n : ℕ) (t : Ty) → slice_get gs n ≡ Some t → global_type k n ≡ Some t) where
-  widely : {A : Type 0} {Q : A → Type 0} {w : World} (o : Outcome (A × World)) → Goes k gs quiet w o Q → Goes k gs widening w o Q
+  pub widely : {A : Type 0} {Q : A → Type 0} {w : World} (o : Outcome (A × World)) → Goes k gs quiet w o Q → Goes k gs widening w o Q
   widely {A} {Q} {w} o goes = record { found = λ r is sound. let h = goes.found r is sound in (quiet-is_widening w r.1 h.0, h.1, h.2) }
 
   -- a step to a world that is known
@@ -235,13 +235,14 @@ module _ (stay : UnitsStay) (grow : TablesGrow) (k : Context) (gs : List Ty) (ah
       (record { scopes = outer-bound w.scopes x means.Function; clean = bound-clean w.scopes x means.Function tt; globals = refl; defined = λ y h is. is })
       (λ sound. bound-fits gs (local_types w) w.scopes x means.Function sound tt) (λ b. (below-scopes grow k gs w (bound_in w.scopes x means.Function) b, tt))
 
+  named-goes : (x : Name) (f : FnTy) (w : World) → Goes k gs widening w ((make_known x f >> bind_function x) w) (λ u. Unit {0})
+  named-goes x f w = after k gs _ _ (known-goes x f (known_function w.functions x) w) (λ u v q.
+      weaker k gs _ (λ s h any. tt) (bind_function-by x (is_bound_here v x) v))
+
   function-by : (x : Name) (f : FnTy) (t : Ty) → t ≡ ty.Function f → (o : Option BuiltIn) (w : World)
       → Goes k gs widening w (declare_function_by x f o w) (λ e. (i : Option TypedInit) → DeclaredRow k e t i)
   function-by x f t is (Some b) w = ends k gs (λ below i. (f, is))
-  function-by x f t is None w =
-      after k gs _ _ (known-goes x f (known_function w.functions x) w) (λ u v q.
-      after k gs _ _ (bind_function-by x (is_bound_here v x) v) (λ s z r.
-      ends k gs (λ below any more i. (f, is))))
+  function-by x f t is None w = after k gs ((make_known x f >> bind_function x) w) _ (named-goes x f w) (λ s z r. ends k gs (λ below any i. (f, is)))
 
   function-goes : (x : Name) (f : FnTy) (t : Ty) → t ≡ ty.Function f → (w : World) → Goes k gs widening w (declare_function x f w) (λ e. (i : Option TypedInit) → DeclaredRow k e t i)
   unfolding declare_function

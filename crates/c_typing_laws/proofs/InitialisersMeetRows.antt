@@ -284,7 +284,7 @@ module _ (stay : UnitsStay) (grow : TablesGrow) (k : Context) (gs : List Ty) (ah
           after k gs _ _ (rule_of-parts w.structs to (length xs) v q.bodies) (λ u s r.
           ends k gs (λ below has found. record {
             levels = λ c. levels-Braces xs (found.0 c);
-            fits = λ t is. fits-Braces k.structs xs t ∙ parts-fit w.structs (λ n ms has_body. below.structs.bodies n ms (r.bodies n ∙ q.bodies n ∙ has_body)) t (length xs) 0 xs (has t is) refl (found.1 t is);
+            fits = λ t is. fits-Braces k.structs xs t ∙ parts-fit w.structs (λ n ms has_body. below.structs.bodies n ms (r.bodies n ∙ q.bodies n ∙ has_body)) t (length xs) 0 xs (has t is) (omega arith) (found.1 t is);
           })))
 
       step : (node : Init-F Init) → typed_init is_global (roll-Init node) ≡ init_step is_global (map-Init Init OfInit (typed_init is_global) node)

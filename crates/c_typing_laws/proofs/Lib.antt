@@ -17,3 +17,4 @@ mod PartsMeetRows
 mod WalksMeetRows
 mod InitialisersMeetRows
 mod DeclarationsMeetRows
+mod StatementsMeetRows

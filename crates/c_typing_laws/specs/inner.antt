@@ -6,3 +6,4 @@ pub mod ErasedStatements
 pub mod WalkedTrees
 pub mod TypedTrees
 pub mod Goes
+pub mod TypedStatements
