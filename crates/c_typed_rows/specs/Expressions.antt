@@ -1,5 +1,6 @@
 -- The row of types that each form of expression meets: its parts' types and constants beside its own. No row knows scopes.
-use Rattle.std.specs.Prelude.{◌≡◌, ℕ, ◌+◌, Bool, true, false, not, ◌||◌, nat_eq, IsTrue, List, [], ◌∷◌, length, Option, Some, None, slice_get, Ok, ℤ, pos}
+use Rattle.std.specs.Prelude.{◌≡◌, ℕ, ◌+◌, Bool, true, false, not, ◌||◌, nat_eq, IsTrue, List, [], ◌∷◌, length, Option}
+use Rattle.std.specs.Prelude.{Some, None, slice_get, Ok, ℤ, pos}
 use Rattle.std.specs.List.{list_all}
 use Rattle.c_tree.specs.declared.operator.AssignOperator.{AssignOperator}
 use Rattle.c_tree.specs.declared.operator.BinaryOperator.{BinaryOperator}
@@ -31,13 +32,15 @@ use Rattle.c_typed.specs.declared.expression.TypedSpec.{TypedSpec, every-TypedSp
 use Rattle.c_typed.specs.declared.expression.TypedTypeWord.{TypedTypeWord, out-TypedTypeWord}
 use Rattle.c_scope.specs.BuiltIns.{built_in_type}
 use Rattle.c_rules.specs.Constants.{of_binary, of_cast, of_conditional, of_unary}
-use Rattle.c_rules.specs.Operators.{FormLayer, chosen, constant_of, form_of, is_assignable, is_integer_value, is_lvalue, is_scalar_value, operated, type_of, value_type}
-use Rattle.c_rules.specs.Rules.{all_convert, assigned_type, called_type, has_address, may_be_cast, member_behind, member_of, one, takes, takes_type}
+use Rattle.c_rules.specs.Operators.{FormLayer, chosen, constant_of, form_of, is_assignable, is_integer_value}
+use Rattle.c_rules.specs.Operators.{is_lvalue, is_scalar_value, operated, type_of, value_type}
+use Rattle.c_rules.specs.Rules.{all_convert, assigned_type, called_type, has_address, may_be_cast, member_behind}
+use Rattle.c_rules.specs.Rules.{member_of, one, takes, takes_type}
 use Rattle.c_typed_rows.specs.Contexts.{Context, Name, defined_as, global_type, local_addressed, local_type}
 
 -- ---- names
 
--- the name of a variable has its type, that of a function the type of its definition; no parameter of a declarator is named
+-- The name of a variable has its type, that of a function the type of its definition. No parameter of a declarator is named.
 abbrev pub NameRow : Context → Name → Entity → Ty → Type 0
 NameRow k x (entity.Global n) t = global_type k n ≡ Some t
 NameRow k x (entity.Local n) t = local_type k n ≡ Some t
@@ -144,8 +147,10 @@ pub record TextRow (k : Context) (bytes : List ℕ) (n : ℕ) (t : Ty) : Type 0 
 
 abbrev pub FormRow : Context → FormLayer → Ty → Constant → Type 0
 FormRow k (TypedForm-F.Assign x a y) t c = AssignmentRow k (binary_operator a) x y t × (c ≡ constant.Other)
-FormRow k (TypedForm-F.Conditional e x y) t c = ConditionalRow e x y t × (c ≡ of_conditional (constant_of e) (constant_of x) (constant_of y))
-FormRow k (TypedForm-F.Binary x o y) t c = (operated k.structs o x y ≡ Some t) × (c ≡ of_binary o (constant_of x) (constant_of y))
+FormRow k (TypedForm-F.Conditional e x y) t c =
+    ConditionalRow e x y t × (c ≡ of_conditional (constant_of e) (constant_of x) (constant_of y))
+FormRow k (TypedForm-F.Binary x o y) t c =
+    (operated k.structs o x y ≡ Some t) × (c ≡ of_binary o (constant_of x) (constant_of y))
 FormRow k (TypedForm-F.Cast w x) t c = CastRow w x t × (c ≡ of_cast (out-Ty t) (constant_of x))
 FormRow k (TypedForm-F.PreIncrement x) t c = UpdateRow k op.Add x one t × (c ≡ constant.Other)
 FormRow k (TypedForm-F.PreDecrement x) t c = UpdateRow k op.Subtract x one t × (c ≡ constant.Other)
@@ -155,7 +160,8 @@ FormRow k (TypedForm-F.SizeofType w) t c = SizeofTypeRow k w t c
 FormRow k (TypedForm-F.Index x i) t c = IndexRow k x i t × (c ≡ constant.Other)
 FormRow k (TypedForm-F.Call f arguments) t c = CallRow f arguments t × (c ≡ constant.Other)
 FormRow k (TypedForm-F.Member x name n) t c = MemberRow k x name n t × (c ≡ constant.Other)
-FormRow k (TypedForm-F.Arrow x name n) t c = (member_behind k.structs x name ≡ Some (n, t)) × (c ≡ constant.Other)
+FormRow k (TypedForm-F.Arrow x name n) t c =
+    (member_behind k.structs x name ≡ Some (n, t)) × (c ≡ constant.Other)
 FormRow k (TypedForm-F.PostIncrement x) t c = UpdateRow k op.Add x one t × (c ≡ constant.Other)
 FormRow k (TypedForm-F.PostDecrement x) t c = UpdateRow k op.Subtract x one t × (c ≡ constant.Other)
 FormRow k (TypedForm-F.Identifier x e) t c = NameRow k x e t × (c ≡ constant.Other)
@@ -195,7 +201,8 @@ operands_of _ = []
 
 -- one layer of an expression
 abbrev pub ExprNode : Type 0
-ExprNode = TypedExpr-F TypedDirect TypedForm TypedParam TypedParams TypedSpec TypedSuffix Declared TypedAbstractDeclarator TypedDeclarator TypedExpr TypedMemberDecl TypedTypeWord
+ExprNode = TypedExpr-F TypedDirect TypedForm TypedParam TypedParams TypedSpec TypedSuffix Declared
+    TypedAbstractDeclarator TypedDeclarator TypedExpr TypedMemberDecl TypedTypeWord
 
 -- what holds of each expression at any depth
 pub record ExprLevel (k : Context) (form : FormLayer) (t : Ty) (c : Constant) : Type 0 where
@@ -208,17 +215,17 @@ NodeLevel k e = ExprLevel k (out-TypedForm e.form) e.ty e.constant
 
 -- an expression whose every level meets its row, those in its type words too
 unfoldable pub IsTypedExpr : Context → TypedExpr → Type 0
-IsTypedExpr k = every-TypedExpr (λ _. Unit {0}) (λ _. Unit {0}) (λ _. Unit {0}) (λ _. Unit {0}) (λ _. Unit {0}) (λ _. Unit {0})
-    (λ _. Unit {0}) (λ _. Unit {0}) (λ _. Unit {0}) (NodeLevel k) (λ _. Unit {0}) (λ _. Unit {0})
+IsTypedExpr k = every-TypedExpr (λ _. Unit {0}) (λ _. Unit {0}) (λ _. Unit {0}) (λ _. Unit {0}) (λ _. Unit {0})
+    (λ _. Unit {0}) (λ _. Unit {0}) (λ _. Unit {0}) (λ _. Unit {0}) (NodeLevel k) (λ _. Unit {0}) (λ _. Unit {0})
 
 -- the same of the bounds in a spec, and in a declarator
 unfoldable pub IsTypedSpec : Context → TypedSpec → Type 0
-IsTypedSpec k = every-TypedSpec (λ _. Unit {0}) (λ _. Unit {0}) (λ _. Unit {0}) (λ _. Unit {0}) (λ _. Unit {0}) (λ _. Unit {0})
-    (λ _. Unit {0}) (λ _. Unit {0}) (λ _. Unit {0}) (NodeLevel k) (λ _. Unit {0}) (λ _. Unit {0})
+IsTypedSpec k = every-TypedSpec (λ _. Unit {0}) (λ _. Unit {0}) (λ _. Unit {0}) (λ _. Unit {0}) (λ _. Unit {0})
+    (λ _. Unit {0}) (λ _. Unit {0}) (λ _. Unit {0}) (λ _. Unit {0}) (NodeLevel k) (λ _. Unit {0}) (λ _. Unit {0})
 
 unfoldable pub IsTypedDeclared : Context → Declared → Type 0
-IsTypedDeclared k = every-Declared (λ _. Unit {0}) (λ _. Unit {0}) (λ _. Unit {0}) (λ _. Unit {0}) (λ _. Unit {0}) (λ _. Unit {0})
-    (λ _. Unit {0}) (λ _. Unit {0}) (λ _. Unit {0}) (NodeLevel k) (λ _. Unit {0}) (λ _. Unit {0})
+IsTypedDeclared k = every-Declared (λ _. Unit {0}) (λ _. Unit {0}) (λ _. Unit {0}) (λ _. Unit {0}) (λ _. Unit {0})
+    (λ _. Unit {0}) (λ _. Unit {0}) (λ _. Unit {0}) (λ _. Unit {0}) (NodeLevel k) (λ _. Unit {0}) (λ _. Unit {0})
 
 -- an expression whose value is used
 pub record IsTypedValue (k : Context) (x : TypedExpr) : Type 0 where

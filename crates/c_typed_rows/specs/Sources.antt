@@ -1,5 +1,6 @@
 -- What holds of a typed source.
-use Rattle.std.specs.Prelude.{◌≡◌, ℕ, suc, Bool, true, false, not, ◌&&◌, ◌||◌, codes, IsTrue, List, [], ◌∷◌, ◌++◌, length, map, Option, Some, None, is_none, take}
+use Rattle.std.specs.Prelude.{◌≡◌, ℕ, suc, Bool, true, false, not, ◌&&◌, ◌||◌, codes, IsTrue, List, [], ◌∷◌, ◌++◌}
+use Rattle.std.specs.Prelude.{length, map, Option, Some, None, is_none, take}
 use Rattle.std.specs.List.{AllByRecursion, list_all}
 use Rattle.std.specs.Option.{unwrap_or}
 use Rattle.c_types.specs.declared.ty.FnTy.{FnTy, out-FnTy, roll-FnTy}
@@ -26,7 +27,8 @@ use Rattle.c_typed_rows.specs.Statements.{IsTypedBlock, IsTypedDecl}
 
 -- a direct declarator, with the names of the declarators in it
 abbrev pub DirectNames : Type 0
-DirectNames = TypedDirect-F Name (Unit {0}) (Unit {0}) (Unit {0}) (Unit {0}) (Unit {0}) Name (Unit {0}) Name (Unit {0}) (Unit {0}) (Unit {0})
+DirectNames = TypedDirect-F Name (Unit {0}) (Unit {0}) (Unit {0}) (Unit {0}) (Unit {0}) Name (Unit {0}) Name
+    (Unit {0}) (Unit {0}) (Unit {0})
 
 abbrev pub direct_name : DirectNames → Name
 direct_name (TypedDirect-F.Name x) = x

@@ -42,7 +42,8 @@ use Rattle.c_typing.specs.Initialisers.{typed_init}
 use Rattle.c_typed_rows.specs.Contexts.{Context, global_type, local_type}
 use Rattle.c_typed_rows.specs.Statements.{DeclaredRow, IfInit, IsTypedDecl, IsTypedInitDeclarator, VariableRow}
 use Rattle.c_typed_rows.specs.Initialisers.{IsTypedInit}
-use Rattle.c_typing_laws.specs.inner.Goes.{Below, EntityFits, Goes, HaveNoParameter, LocalStands, MeaningFits, MeansNoParameter, Relation, ScopesFit, Sound, after, ends, finds, local_types, never, ruled, weaker}
+use Rattle.c_typing_laws.specs.Worlds.{Below, EntityFits, HaveNoParameter, LocalStands, MeaningFits, MeansNoParameter, ScopesFit, local_types}
+use Rattle.c_typing_laws.specs.inner.Goes.{Goes, Relation, Sound, after, ends, finds, never, ruled, weaker}
 use Rattle.c_typing_laws.specs.inner.TypedTrees.{IsTypedDeclarator}
 use Rattle.c_typing_laws.proofs.InitialisersMeetRows as inits
 use Rattle.c_typing_laws.proofs.PartsMeetRows.{binding-added, bound-fits, outer-bound}

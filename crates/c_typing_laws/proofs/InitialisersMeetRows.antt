@@ -29,7 +29,8 @@ use Rattle.c_typing.specs.Leaves.{is_constant_leaf}
 use Rattle.c_typed_rows.specs.Contexts.{Context, global_type}
 use Rattle.c_typed_rows.specs.Expressions.{IsTypedValue}
 use Rattle.c_typed_rows.specs.Initialisers.{InitLevel, char_bound, fits_step, init_fits, part_at, part_of, parts_fit}
-use Rattle.c_typing_laws.specs.inner.Goes.{Below, Goes, HaveNoParameter, after, ends, never, ruled, weaker}
+use Rattle.c_typing_laws.specs.Worlds.{Below, HaveNoParameter}
+use Rattle.c_typing_laws.specs.inner.Goes.{Goes, after, ends, never, ruled, weaker}
 use Rattle.c_typing_laws.proofs.RulesMeetRows as rules
 use Rattle.c_typing_laws.proofs.WalksMeetRows.{expr-meets}
 use Rattle.c_typing_laws.proofs.WorldSteps.{IsQuiet, quiet}

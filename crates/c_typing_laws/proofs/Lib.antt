@@ -18,3 +18,4 @@ mod WalksMeetRows
 mod InitialisersMeetRows
 mod DeclarationsMeetRows
 mod StatementsMeetRows
+mod RowsOfWalks

@@ -52,7 +52,8 @@ use Rattle.c_expr_typing.specs.declared.layered.LayeredDeclarator.{LayeredDeclar
 use Rattle.c_expr_typing.specs.Trees.{Found, OfMember, body_tag, constant_bound, declared, is_bound, member_declarators, members, named_type, one_member, spec_step, tree_inside, type_name, walked}
 use Rattle.c_typed_rows.specs.Contexts.{Context, global_type}
 use Rattle.c_typed_rows.specs.Expressions.{IsTypedDeclared, IsTypedSpec}
-use Rattle.c_typing_laws.specs.inner.Goes.{Below, EntityFits, Goes, MeaningFits, Relation, ScopesFit, Sound, after, ends, finds, local_types, never, ruled, weaker}
+use Rattle.c_typing_laws.specs.Worlds.{Below, EntityFits, MeaningFits, ScopesFit, local_types}
+use Rattle.c_typing_laws.specs.inner.Goes.{Goes, Relation, Sound, after, ends, finds, never, ruled, weaker}
 use Rattle.c_typing_laws.specs.inner.TypedTrees.{IsTypedAbstract, IsTypedDeclarator, IsTypedDirect, IsTypedMember, IsTypedParam, IsTypedParams, IsTypedSuffix, IsTypedTypeWord}
 use Rattle.c_typing_laws.specs.inner.Yields.{map_twice}
 use Rattle.c_typing_laws.proofs.KeptNodes as kept

@@ -48,7 +48,8 @@ use Rattle.c_rules.specs.Operators.{FormLayer, chosen, constant_of, form_of, is_
 use Rattle.c_rules.specs.Rules.{address, addressed_at, all_convert, arithmetic, arrow, assigned_by, assignment, binary, call, called, called_type, cast, conditional, conditional_type, dereference, dereferenced, identifier, identifier_by, index, has_address, indexed, mark_addressed, mark_at, may_be_cast, means_function, member, member_behind, member_found, member_of, mentioned, mentioned_by, named, negation, number, one, operand_rule, plain, pointed, size_of_type, size_of_value, stepped, takes, takes_type, text, unary_of, updated, variable}
 use Rattle.c_typed_rows.specs.Contexts.{Context, global_type, local_addressed, local_type}
 use Rattle.c_typed_rows.specs.Expressions.{AssignmentRow, CallRow, ConditionalRow, DereferenceRow, ExprLevel, IndexRow, IsTypedExpr, MemberRow, NameRow, NamedAddressed, PlainRow, UnaryRow, UpdateRow, is_value, is_value_at}
-use Rattle.c_typing_laws.specs.inner.Goes.{Below, EntityFits, Goes, HaveNoParameter, LocalStands, MeaningFits, MeansNoParameter, ScopesFit, Sound, after, ends, finds, local_types, never, ruled, weaker}
+use Rattle.c_typing_laws.specs.Worlds.{Below, EntityFits, HaveNoParameter, LocalStands, MeaningFits, MeansNoParameter, ScopesFit, local_types}
+use Rattle.c_typing_laws.specs.inner.Goes.{Goes, Sound, after, ends, finds, never, ruled, weaker}
 use Rattle.c_typing_laws.specs.inner.TypedTrees.{IsTypedForm, IsTypedTypeWord}
 use Rattle.c_typing_laws.proofs.RowsStay as stays
 use Rattle.c_typing_laws.proofs.TypedParts as parts

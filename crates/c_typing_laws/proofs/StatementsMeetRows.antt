@@ -39,7 +39,8 @@ use Rattle.c_typing.specs.Statements.{OfBlockItem, block_item_step, block_items,
 use Rattle.c_typed_rows.specs.Contexts.{Context, global_type}
 use Rattle.c_typed_rows.specs.Expressions.{IsTypedValue}
 use Rattle.c_typed_rows.specs.Statements.{BlockItemLevel, ForLevel, IfFull, IsTypedBlock, IsTypedCondition, IsTypedDecl, IsTypedForInit, IsTypedFull, ReturnRow, StmtLevel}
-use Rattle.c_typing_laws.specs.inner.Goes.{Below, Goes, HaveNoParameter, ScopesFit, Sound, after, ends, local_types, never, ruled, weaker}
+use Rattle.c_typing_laws.specs.Worlds.{Below, HaveNoParameter, ScopesFit, local_types}
+use Rattle.c_typing_laws.specs.inner.Goes.{Goes, Sound, after, ends, never, ruled, weaker}
 use Rattle.c_typing_laws.specs.inner.TypedStatements.{IsTypedBlockItem, IsTypedForLoop, IsTypedStmt}
 use Rattle.c_typing_laws.proofs.DeclarationsMeetRows.{IsWidening, decl-goes, widely, widening}
 use Rattle.c_typing_laws.proofs.WalksMeetRows.{expr-meets}

@@ -22,7 +22,8 @@ use Rattle.c_scope.specs.Scopes.{known_function, most_tags, new_tag, outer, tag,
 use Rattle.c_scope.specs.Walk.{Outcome}
 use Rattle.c_rules.specs.Rules.{addressed_at}
 use Rattle.c_typed_rows.specs.Contexts.{Context, defined_as}
-use Rattle.c_typing_laws.specs.inner.Goes.{Below, Goes, LocalStands, Relation, ScopesFit, Sound, ends, finds, local_types, never, ruled}
+use Rattle.c_typing_laws.specs.Worlds.{Below, LocalStands, ScopesFit, local_types}
+use Rattle.c_typing_laws.specs.inner.Goes.{Goes, Relation, Sound, ends, finds, never, ruled}
 
 -- ---- relations
 

@@ -1,10 +1,66 @@
--- What holds of the typed forms of sources.
-use Rattle.std.specs.Prelude.{◌≡◌}
+-- What holds of the typed forms of sources, and of what each walk finds.
+use Rattle.std.specs.Prelude.{◌≡◌, ℕ, Bool, false, List, Some, slice_get, Ok}
+use Rattle.c_tree.specs.declared.expression.Expr.{Expr}
+use Rattle.c_tree.specs.declared.statement.Block.{Block}
+use Rattle.c_tree.specs.declared.statement.Decl.{Decl}
+use Rattle.c_tree.specs.declared.statement.Init.{Init}
 use Rattle.c_tree.specs.declared.statement.Unit.{Unit as Source}
+use Rattle.c_types.specs.declared.ty.Ty.{Ty}
+use Rattle.c_typed.specs.declared.expression.TypedExpr.{TypedExpr}
+use Rattle.c_typed.specs.declared.statement.TypedBlock.{TypedBlock}
+use Rattle.c_typed.specs.declared.statement.TypedDecl.{TypedDecl}
+use Rattle.c_typed.specs.declared.statement.TypedInit.{TypedInit}
 use Rattle.c_typed.specs.declared.unit.Typed.{Typed}
 use Rattle.c_typed.specs.Erased.{erased}
+use Rattle.c_scope.specs.declared.world.World.{World}
+use Rattle.c_rules.specs.declared.place.Place.TheVariants.{Value}
+use Rattle.c_expr_typing.specs.Trees.{typed_expr}
+use Rattle.c_typing.specs.Declarations.{typed_decl}
+use Rattle.c_typing.specs.Initialisers.{typed_init}
+use Rattle.c_typing.specs.Statements.{typed_block}
 use Rattle.c_typing.specs.Theorems.{HasForm}
+use Rattle.c_typed_rows.specs.Contexts.{Context, global_type}
+use Rattle.c_typed_rows.specs.Expressions.{IsTypedValue}
+use Rattle.c_typed_rows.specs.Initialisers.{IsTypedInit}
+use Rattle.c_typed_rows.specs.Statements.{IsTypedBlock, IsTypedDecl}
+use Rattle.c_typing_laws.specs.Worlds.{Below, HaveNoParameter, ScopesFit, local_types}
+
+-- ---- erasing
 
 -- the typed form of a source, without its types, is that source
 abbrev pub TypedSourcesKeepTheirTrees : Type 0
 TypedSourcesKeepTheirTrees = (s : Source) (t : Typed) → HasForm s t → erased t ≡ s
+
+-- ---- rows
+
+-- where a walk begins and ends: global variables of these types are the context's first, names in scope stand for variables
+-- that are there, none for a parameter of a declarator, and the context has all that is known behind the walk
+pub record Between (k : Context) (globals : List Ty) (w new : World) : Type 0 where
+  pub in_order : (n : ℕ) (t : Ty) → slice_get globals n ≡ Some t → global_type k n ≡ Some t
+  pub scopes : ScopesFit globals (local_types w) w.scopes
+  pub no_parameter : HaveNoParameter w.scopes
+  pub known : Below k new
+
+-- what the walk of a tree finds meets the rows of each of its levels, in each context that has what is known
+pub record WalksMeetRows : Type 0 where
+  pub expression :
+      (k : Context) (globals : List Ty) (e : Expr) (w new : World) (x : TypedExpr)
+      → typed_expr e Value w ≡ Ok (x, new)
+      → Between k globals w new
+      → IsTypedValue k x
+  pub initialiser :
+      (k : Context) (globals : List Ty) (is_global : Bool) (i : Init) (t : Ty) (w new : World) (x : TypedInit)
+      → typed_init is_global i (Some t) w ≡ Ok (x, new)
+      → Between k globals w new
+      → IsTypedInit k t x
+  -- in a function
+  pub declaration :
+      (k : Context) (globals : List Ty) (d : Decl) (w new : World) (x : TypedDecl)
+      → typed_decl false d w ≡ Ok (x, new)
+      → Between k globals w new
+      → IsTypedDecl k x
+  pub block :
+      (k : Context) (globals : List Ty) (b : Block) (in_loop : Bool) (w new : World) (x : TypedBlock)
+      → typed_block k.result b in_loop w ≡ Ok (x, new)
+      → Between k globals w new
+      → IsTypedBlock k x

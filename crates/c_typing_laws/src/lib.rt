@@ -3,4 +3,4 @@
 
 mod theorems;
 
-pub use theorems::typed_sources_keep_their_trees;
+pub use theorems::{typed_sources_keep_their_trees, walks_meet_rows};

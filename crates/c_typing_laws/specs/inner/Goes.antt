@@ -1,64 +1,13 @@
 -- What a walk leaves of the world, and what holds of all that it finds, where what is known behind it is of this context.
 use Rattle.std.proofs.Common.{◌≡◌, ◌∙◌, ℕ, Bool, true, false, IsTrue, List, [], ◌∷◌, map, Option, Some, None, Ok, Err, refl, ap, sym, subst}
-use Rattle.std.specs.List.{AllByRecursion}
-use Rattle.std.specs.Prelude.{slice_get}
 use Rattle.c_types.specs.declared.ty.Ty.{Ty}
-use Rattle.c_types.specs.Theorems.{Extends}
-use Rattle.c_typed.specs.declared.entity.Entity.{Entity}
-use Rattle.c_typed.specs.declared.entity.Entity.TheVariants as entity
-use Rattle.c_typed.specs.declared.unit.Local.{Local}
 use Rattle.c_scope.specs.declared.rule.Rule.{Rule}
-use Rattle.c_scope.specs.declared.scopes.Binding.{Binding}
-use Rattle.c_scope.specs.declared.scopes.Meaning.{Meaning}
-use Rattle.c_scope.specs.declared.scopes.Meaning.TheVariants as means
-use Rattle.c_scope.specs.declared.world.KnownFunction.{KnownFunction}
 use Rattle.c_scope.specs.declared.world.World.{World}
-use Rattle.c_scope.specs.Scopes.{known_function}
 use Rattle.c_scope.specs.Walk.{Outcome, Walk, and_then, found, rule}
-use Rattle.c_typed_rows.specs.Contexts.{Context, Name, defined_as}
+use Rattle.c_typed_rows.specs.Contexts.{Context}
+use Rattle.c_typing_laws.specs.Worlds.{Below, ScopesFit, local_types}
 
--- ---- scopes
-
--- what a variable's name stands for, of globals and locals of these types
-abbrev pub EntityFits : List Ty → List Ty → Entity → Ty → Type 0
-EntityFits gs ls (entity.Global n) t = slice_get gs n ≡ Some t
-EntityFits gs ls (entity.Local n) t = slice_get ls n ≡ Some t
-EntityFits gs ls entity.Parameter t = Unit {0}
-EntityFits gs ls entity.Function t = ⊥
-EntityFits gs ls (entity.BuiltIn b) t = ⊥
-
-abbrev pub MeaningFits : List Ty → List Ty → Meaning → Type 0
-MeaningFits gs ls (means.Variable e t) = EntityFits gs ls e t
-MeaningFits gs ls _ = Unit {0}
-
-abbrev pub ScopesFit : List Ty → List Ty → List (List Binding) → Type 0
-ScopesFit gs ls ss = AllByRecursion (AllByRecursion (λ b. MeaningFits gs ls b.meaning)) ss
-
-abbrev pub MeansNoParameter : Meaning → Type 0
-MeansNoParameter (means.Variable entity.Parameter t) = ⊥
-MeansNoParameter _ = Unit {0}
-
--- no name stands for a parameter of a declarator
-abbrev pub HaveNoParameter : List (List Binding) → Type 0
-HaveNoParameter ss = AllByRecursion (AllByRecursion (λ b. MeansNoParameter b.meaning)) ss
-
--- ---- worlds of a context
-
--- a local of the context, at least as much known of it
-abbrev pub LocalStands : Local → Option Local → Type 0
-LocalStands l None = ⊥
-LocalStands l (Some m) = (m.ty ≡ l.ty) × (l.is_addressed ≡ true → m.is_addressed ≡ true)
-
--- the context has all that is known here
-pub record Below (k : Context) (w : World) : Type 0 where
-  pub structs : Extends w.structs k.structs
-  pub functions : (x : Name) (f : KnownFunction) → known_function w.functions x ≡ Some f → f.is_used ≡ true → defined_as k.functions x ≡ Some f.ty
-  pub strings : (n : ℕ) (bytes : List ℕ) → slice_get w.strings n ≡ Some bytes → slice_get k.strings n ≡ Some bytes
-  pub locals : (n : ℕ) (l : Local) → slice_get w.locals n ≡ Some l → LocalStands l (slice_get k.locals n)
-
--- the types of the locals
-abbrev pub local_types : World → List Ty
-local_types w = map (λ l. l.ty) w.locals
+-- ---- steps
 
 -- a relation of worlds that steps of a walk keep
 pub record Relation : Type 1 where
