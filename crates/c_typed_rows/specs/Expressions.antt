@@ -1,8 +1,7 @@
 -- The row of types that each form of expression meets: its parts' types and constants beside its own. No row knows scopes.
-use Rattle.std.specs.Prelude.{◌≡◌, ℕ, ◌+◌, Bool, true, false, not, ◌||◌, nat_eq, IsTrue, List, [], ◌∷◌, length, Option}
-use Rattle.std.specs.Prelude.{Some, None, slice_get, Ok, ℤ, pos}
+use Rattle.std.specs.Prelude.{◌≡◌, ℕ, ◌+◌, Bool, true, false, ◌||◌, nat_eq, IsTrue, List, [], ◌∷◌, length, Option}
+use Rattle.std.specs.Prelude.{Some, None, slice_get, Ok, pos}
 use Rattle.std.specs.List.{list_all}
-use Rattle.c_tree.specs.declared.operator.AssignOperator.{AssignOperator}
 use Rattle.c_tree.specs.declared.operator.BinaryOperator.{BinaryOperator}
 use Rattle.c_tree.specs.declared.operator.BinaryOperator.TheVariants as op
 use Rattle.c_tree.specs.declared.operator.UnaryOperator.{UnaryOperator}

@@ -1,6 +1,6 @@
 -- What holds of a typed source.
-use Rattle.std.specs.Prelude.{◌≡◌, ℕ, suc, Bool, true, false, not, ◌&&◌, ◌||◌, codes, IsTrue, List, [], ◌∷◌, ◌++◌}
-use Rattle.std.specs.Prelude.{length, map, Option, Some, None, is_none, take}
+use Rattle.std.specs.Prelude.{◌≡◌, ℕ, suc, Bool, true, ◌&&◌, ◌||◌, codes, IsTrue, List, [], ◌∷◌, ◌++◌}
+use Rattle.std.specs.Prelude.{length, map, Some, is_none, take}
 use Rattle.std.specs.List.{AllByRecursion, list_all}
 use Rattle.std.specs.Option.{unwrap_or}
 use Rattle.c_types.specs.declared.ty.FnTy.{FnTy, out-FnTy, roll-FnTy}
@@ -13,7 +13,6 @@ use Rattle.c_typed.specs.declared.entity.Entity.TheVariants as entity
 use Rattle.c_typed.specs.declared.expression.Declared.{Declared, fold-Declared, out-Declared}
 use Rattle.c_typed.specs.declared.expression.TypedDirect.TheOpen.{TypedDirect-F}
 use Rattle.c_typed.specs.declared.statement.TypedInitDeclarator.{TypedInitDeclarator}
-use Rattle.c_typed.specs.declared.unit.Local.{Local}
 use Rattle.c_typed.specs.declared.unit.Typed.{Typed}
 use Rattle.c_typed.specs.declared.unit.TypedFn.{TypedFn}
 use Rattle.c_typed.specs.declared.unit.TypedItem.{TypedItem}

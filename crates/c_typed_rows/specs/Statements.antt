@@ -1,5 +1,5 @@
 -- What each form of a statement and of a declaration meets.
-use Rattle.std.specs.Prelude.{◌≡◌, Bool, not, IsTrue, List, Option, Some, None}
+use Rattle.std.specs.Prelude.{◌≡◌, not, IsTrue, Option, Some, None}
 use Rattle.std.specs.List.{AllByRecursion}
 use Rattle.c_types.specs.declared.ty.FnTy.{FnTy}
 use Rattle.c_types.specs.declared.ty.Ty.{Ty}
@@ -8,7 +8,7 @@ use Rattle.c_types.specs.Kinds.{is_void}
 use Rattle.c_types.specs.Units.{has_units}
 use Rattle.c_typed.specs.declared.entity.Entity.{Entity}
 use Rattle.c_typed.specs.declared.entity.Entity.TheVariants as entity
-use Rattle.c_typed.specs.declared.expression.Declared.{Declared, out-Declared}
+use Rattle.c_typed.specs.declared.expression.Declared.{out-Declared}
 use Rattle.c_typed.specs.declared.statement.TypedBlock.{TypedBlock, every-TypedBlock}
 use Rattle.c_typed.specs.declared.statement.TypedBlockItem.{TypedBlockItem}
 use Rattle.c_typed.specs.declared.statement.TypedBlockItem.TheOpen.{TypedBlockItem-F, TypedStmt-F, TypedForLoop-F}

@@ -1,5 +1,5 @@
 -- The walk of a declaration in a function finds what meets its rows.
-use Rattle.std.proofs.Common.{◌≡◌, ◌∙◌, ℕ, zero, suc, Bool, true, false, ◌||◌, if◌then◌else◌, inl, IsTrue, List, [], ◌∷◌, ◌++◌, length, map, Option, Some, None, is_some, slice_get, Ok, Err, refl, ap, sym, subst}
+use Rattle.std.proofs.Common.{◌≡◌, ◌∙◌, ℕ, suc, Bool, true, false, ◌||◌, if◌then◌else◌, List, [], ◌∷◌, ◌++◌, length, map, Option, Some, None, slice_get, Ok, refl, ap, sym, subst}
 use Rattle.std.specs.List.{AllByRecursion}
 use Rattle.std.specs.Option.{option_map}
 use Rattle.std.specs.Str.{bytes_eq}
@@ -22,7 +22,6 @@ use Rattle.c_typed.specs.declared.entity.BuiltIn.{BuiltIn}
 use Rattle.c_typed.specs.declared.expression.Declared.{out-Declared, out-roll-Declared}
 use Rattle.c_typed.specs.declared.expression.TypedDeclarator.{TypedDeclarator}
 use Rattle.c_typed.specs.declared.statement.TypedInit.{TypedInit}
-use Rattle.c_typed.specs.declared.statement.TypedInitDeclarator.{TypedInitDeclarator}
 use Rattle.c_typed.specs.declared.unit.Local.{Local}
 use Rattle.c_scope.specs.declared.rule.Rule.TheVariants as broken
 use Rattle.c_scope.specs.declared.scopes.Binding.{Binding}
@@ -34,17 +33,15 @@ use Rattle.c_scope.specs.BuiltIns.{Name, built_in_named}
 use Rattle.c_scope.specs.Declarations.{may_be_declared}
 use Rattle.c_scope.specs.Definitions.{bind_function, declare_function, declare_function_by, declare_variable, is_bound_here, make_known, make_known_by}
 use Rattle.c_scope.specs.Scopes.{bind, bound_in, known_function, outer}
-use Rattle.c_scope.specs.Walk.{Outcome, ◌>>◌, and_then, each, maybe, pure, rule}
+use Rattle.c_scope.specs.Walk.{Outcome, ◌>>◌, each, pure, rule}
 use Rattle.c_expr_typing.specs.declared.layered.LayeredDeclarator.{LayeredDeclarator}
-use Rattle.c_expr_typing.specs.Trees.{declared, typed_declarator, typed_spec}
+use Rattle.c_expr_typing.specs.Trees.{declared}
 use Rattle.c_typing.specs.Declarations.{completed, declare, declare_all, declare_by, declared_type, optional_init, shaped_type, type_rules, typed_decl, typed_init_declarator}
-use Rattle.c_typing.specs.Initialisers.{typed_init}
 use Rattle.c_typed_rows.specs.Contexts.{Context, global_type, local_type}
 use Rattle.c_typed_rows.specs.Statements.{DeclaredRow, IfInit, IsTypedDecl, IsTypedInitDeclarator, VariableRow}
 use Rattle.c_typed_rows.specs.Initialisers.{IsTypedInit}
 use Rattle.c_typing_laws.specs.Worlds.{Below, EntityFits, HaveNoParameter, LocalStands, MeaningFits, MeansNoParameter, ScopesFit, local_types}
 use Rattle.c_typing_laws.specs.inner.Goes.{Goes, Relation, Sound, after, ends, finds, never, ruled, weaker}
-use Rattle.c_typing_laws.specs.inner.TypedTrees.{IsTypedDeclarator}
 use Rattle.c_typing_laws.proofs.InitialisersMeetRows as inits
 use Rattle.c_typing_laws.proofs.PartsMeetRows.{binding-added, bound-fits, outer-bound}
 use Rattle.c_typing_laws.proofs.RowsStay as stays

@@ -1,5 +1,5 @@
 -- The walk of an expression finds what meets its rows, where the walks of its parts do.
-use Rattle.std.proofs.Common.{◌≡◌, ◌∙◌, ℕ, Bool, List, [], ◌∷◌, map, Some, slice_get, refl, sym, subst}
+use Rattle.std.proofs.Common.{◌≡◌, ℕ, List, [], ◌∷◌, map, Some, slice_get, refl, sym, subst}
 use Rattle.std.specs.List.{AllByRecursion}
 use Rattle.c_tree.specs.declared.expression.Direct.TheOpen.{Expr-F}
 use Rattle.c_tree.specs.declared.expression.Expr.{roll-Expr}

@@ -1,5 +1,5 @@
 -- The walk of an initialiser finds one that follows its type.
-use Rattle.std.proofs.Common.{◌≡◌, ◌≤◌, ◌<◌, ◌∙◌, ℕ, zero, suc, ◌+◌, Bool, true, false, not, ◌&&◌, ◌||◌, if◌then◌else◌, inl, IsTrue, List, [], ◌∷◌, length, map, Option, Some, None, is_some, slice_get, nat_lt, refl, ap, sym, subst, arith}
+use Rattle.std.proofs.Common.{◌≡◌, ◌≤◌, ◌<◌, ◌∙◌, ℕ, zero, suc, ◌+◌, Bool, true, false, not, ◌&&◌, ◌||◌, if◌then◌else◌, inl, List, [], ◌∷◌, length, map, Option, Some, None, is_some, slice_get, nat_lt, refl, ap, sym, subst, arith}
 use Rattle.std.proofs.lemmas.Bool.Decides.{nat_tests}
 use Rattle.std.specs.List.{AllByRecursion}
 use Rattle.std.specs.Option.{option_map, option_and_then}
@@ -29,7 +29,7 @@ use Rattle.c_typing.specs.Leaves.{is_constant_leaf}
 use Rattle.c_typed_rows.specs.Contexts.{Context, global_type}
 use Rattle.c_typed_rows.specs.Expressions.{IsTypedValue}
 use Rattle.c_typed_rows.specs.Initialisers.{InitLevel, char_bound, fits_step, init_fits, part_at, part_of, parts_fit}
-use Rattle.c_typing_laws.specs.Worlds.{Below, HaveNoParameter}
+use Rattle.c_typing_laws.specs.Worlds.{HaveNoParameter}
 use Rattle.c_typing_laws.specs.inner.Goes.{Goes, after, ends, never, ruled, weaker}
 use Rattle.c_typing_laws.proofs.RulesMeetRows as rules
 use Rattle.c_typing_laws.proofs.WalksMeetRows.{expr-meets}

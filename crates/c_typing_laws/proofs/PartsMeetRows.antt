@@ -1,7 +1,6 @@
 -- The walks of specs, declarators and type words find what meets its rows, where the walks of their parts do.
-use Rattle.std.proofs.Common.{◌≡◌, ◌∙◌, ℕ, Bool, true, false, ◌⊎◌, inl, inr, List, [], ◌∷◌, ◌++◌, ◌&&◌, length, nat_le, map, Option, Some, None, slice_get, Ok, Err, refl, ap, sym, subst}
+use Rattle.std.proofs.Common.{◌≡◌, ℕ, Bool, true, false, inr, List, [], ◌∷◌, ◌++◌, ◌&&◌, length, nat_le, map, Option, Some, None, slice_get, Ok, Err, refl, ap, sym, subst}
 use Rattle.std.specs.List.{AllByRecursion}
-use Rattle.std.specs.Option.{option_map}
 use Rattle.c_layers.specs.declared.layer.Layer.{Layer}
 use Rattle.c_layers.specs.declared.layer.Parameter.{Parameter}
 use Rattle.c_layers.specs.Shapes.{adjusted, results_fit, shaped, whole_of}
@@ -23,11 +22,10 @@ use Rattle.c_types.specs.Theorems.{TablesGrow, UnitsStay}
 use Rattle.c_typed.specs.declared.entity.Constant.{Constant}
 use Rattle.c_typed.specs.declared.entity.Constant.TheVariants as constant
 use Rattle.c_typed.specs.declared.entity.Entity.TheVariants as entity
-use Rattle.c_typed.specs.declared.expression.Declared.{Declared}
 use Rattle.c_typed.specs.declared.expression.TypedAbstractDeclarator.{TypedAbstractDeclarator, roll-TypedAbstractDeclarator}
 use Rattle.c_typed.specs.declared.expression.TypedDirect.{TypedDirect}
 use Rattle.c_typed.specs.declared.expression.TypedDeclarator.{roll-TypedDeclarator}
-use Rattle.c_typed.specs.declared.expression.TypedMemberDecl.{TypedMemberDecl, roll-TypedMemberDecl}
+use Rattle.c_typed.specs.declared.expression.TypedMemberDecl.{roll-TypedMemberDecl}
 use Rattle.c_typed.specs.declared.expression.TypedParam.{TypedParam}
 use Rattle.c_typed.specs.declared.expression.TypedParams.{TypedParams}
 use Rattle.c_typed.specs.declared.expression.TypedParams.TheVariants as params
@@ -43,23 +41,22 @@ use Rattle.c_scope.specs.declared.scopes.Meaning.{Meaning}
 use Rattle.c_scope.specs.declared.scopes.Meaning.TheVariants as means
 use Rattle.c_scope.specs.declared.world.World.{World}
 use Rattle.c_scope.specs.BuiltIns.{Name}
-use Rattle.c_scope.specs.Declarations.{bind_parameter, define, is_new_member, is_undefined, may_be_parameter, member_rules, member_type, most_parameters, parameter, word_type}
+use Rattle.c_scope.specs.Declarations.{bind_parameter, is_new_member, is_undefined, may_be_parameter, member_rules, member_type, most_parameters, parameter, word_type}
 use Rattle.c_scope.specs.Scopes.{bind, bound_in, enter, leave, meaning_of, outer, tag, within}
 use Rattle.c_scope.specs.Walk.{Outcome, Walk, ◌>>=◌, ◌>>◌, and_then, each_pair, maybe, pure, rule, world}
 use Rattle.c_rules.specs.declared.place.Place.TheVariants.{Value}
 use Rattle.c_rules.specs.Operators.{constant_of}
 use Rattle.c_expr_typing.specs.declared.layered.LayeredDeclarator.{LayeredDeclarator}
-use Rattle.c_expr_typing.specs.Trees.{Found, OfMember, body_tag, constant_bound, declared, is_bound, member_declarators, members, named_type, one_member, spec_step, tree_inside, type_name, walked}
+use Rattle.c_expr_typing.specs.Trees.{Found, OfMember, body_tag, constant_bound, is_bound, member_declarators, members, named_type, one_member, spec_step, tree_inside, type_name, walked}
 use Rattle.c_typed_rows.specs.Contexts.{Context, global_type}
 use Rattle.c_typed_rows.specs.Expressions.{IsTypedDeclared, IsTypedSpec}
-use Rattle.c_typing_laws.specs.Worlds.{Below, EntityFits, MeaningFits, ScopesFit, local_types}
-use Rattle.c_typing_laws.specs.inner.Goes.{Goes, Relation, Sound, after, ends, finds, never, ruled, weaker}
+use Rattle.c_typing_laws.specs.Worlds.{Below, MeaningFits, ScopesFit, local_types}
+use Rattle.c_typing_laws.specs.inner.Goes.{Goes, Relation, Sound, after, ends, finds, never, ruled}
 use Rattle.c_typing_laws.specs.inner.TypedTrees.{IsTypedAbstract, IsTypedDeclarator, IsTypedDirect, IsTypedMember, IsTypedParam, IsTypedParams, IsTypedSuffix, IsTypedTypeWord}
 use Rattle.c_typing_laws.specs.inner.Yields.{map_twice}
 use Rattle.c_typing_laws.proofs.KeptNodes as kept
 use Rattle.c_typing_laws.proofs.MetNodes as met
 use Rattle.c_typing_laws.proofs.MetNodes.{Met, MetAbstractDeclarator, MetDeclarator, MetMemberDecl, MetParam, MetSuffix}
-use Rattle.c_typing_laws.proofs.RulesMeetRows as rules
 use Rattle.c_typing_laws.proofs.RulesMeetRows.{has_constant}
 use Rattle.c_typing_laws.proofs.TypedParts as parts
 use Rattle.c_typing_laws.proofs.WorldSteps.{IsInner, IsQuiet, below-scopes, define-goes, defining, inner, quiet, quiet-is_defining, quiet-is_inner, sound-quiet, tag-goes}

@@ -1,5 +1,5 @@
 -- The rows of what each walk finds.
-use Rattle.std.proofs.Common.{◌≡◌, true, false, List, Some, inl, refl}
+use Rattle.std.proofs.Common.{Some, inl, refl}
 use Rattle.c_types.specs.Theorems.{TablesGrow, UnitsStay}
 use Rattle.c_rules.specs.declared.place.Place.TheVariants.{Value}
 use Rattle.c_typing_laws.specs.Theorems.{WalksMeetRows}

@@ -1,5 +1,5 @@
 -- A row that is met stays met where more is known of structs.
-use Rattle.std.proofs.Common.{◌≡◌, ◌∙◌, ℕ, Bool, true, false, ◌&&◌, ◌||◌, if◌then◌else◌, IsTrue, List, [], ◌∷◌, map, Option, Some, None, slice_get, Result, Ok, Err, refl, ap, sym, subst}
+use Rattle.std.proofs.Common.{◌≡◌, ℕ, Bool, true, false, ◌&&◌, ◌||◌, if◌then◌else◌, List, Option, Some, None, slice_get, Ok, refl, ap, sym, subst}
 use Rattle.std.specs.Option.{ok_or, option_map, option_and_then, option_or}
 use Rattle.std.specs.Result.{is_ok}
 use Rattle.tables.specs.Places.{place_of}

@@ -1,5 +1,5 @@
 -- What the rules of each form give meets its row, where the parts do.
-use Rattle.std.proofs.Common.{◌≡◌, ◌∙◌, ℕ, zero, suc, ℤ, Bool, true, false, ◌&&◌, ◌||◌, ◌⊎◌, inl, inr, if◌then◌else◌, IsTrue, List, [], ◌∷◌, ◌++◌, length, map, Option, Some, None, slice_get, Result, Ok, Err, pos, nat_eq, refl, ap, sym, subst}
+use Rattle.std.proofs.Common.{◌≡◌, ◌∙◌, ℕ, zero, suc, ℤ, Bool, true, false, ◌&&◌, ◌||◌, ◌⊎◌, inl, inr, if◌then◌else◌, IsTrue, List, [], ◌∷◌, length, map, Option, Some, None, slice_get, Result, Ok, Err, pos, nat_eq, refl, ap, sym, subst}
 use Rattle.std.specs.List.{AllByRecursion, list_all}
 use Rattle.std.specs.Option.{option_map, option_or}
 use Rattle.std.specs.Result.{result_ok}
@@ -12,7 +12,7 @@ use Rattle.c_tree.specs.declared.operator.UnaryOperator.{UnaryOperator}
 use Rattle.c_tree.specs.declared.operator.UnaryOperator.TheVariants as unary
 use Rattle.c_tree.specs.Operators.{binary_operator}
 use Rattle.c_types.specs.declared.error.LayoutRefusal.{LayoutRefusal}
-use Rattle.c_types.specs.declared.ty.FnTy.{FnTy, out-FnTy}
+use Rattle.c_types.specs.declared.ty.FnTy.{out-FnTy}
 use Rattle.c_types.specs.declared.ty.Ty.{Ty, out-Ty}
 use Rattle.c_types.specs.declared.ty.Ty.TheVariants as ty
 use Rattle.c_types.specs.declared.ty.Ty.TheOpen.{Ty-F}
@@ -43,12 +43,12 @@ use Rattle.c_scope.specs.Scopes.{known_function, meaning_here, meaning_of}
 use Rattle.c_scope.specs.Walk.{Outcome, found}
 use Rattle.c_rules.specs.declared.place.Place.{Place}
 use Rattle.c_rules.specs.declared.place.Place.TheVariants.{Callee, Value}
-use Rattle.c_rules.specs.Constants.{as_truth, of_and, of_binary, of_both, of_cast, of_conditional, of_or, of_unary, of_value}
+use Rattle.c_rules.specs.Constants.{of_and, of_binary, of_both, of_cast, of_conditional, of_or, of_unary, of_value}
 use Rattle.c_rules.specs.Operators.{FormLayer, chosen, constant_of, form_of, is_assignable, is_integer_value, is_lvalue, is_scalar_value, operated, type_of, typed, value_type}
-use Rattle.c_rules.specs.Rules.{address, addressed_at, all_convert, arithmetic, arrow, assigned_by, assignment, binary, call, called, called_type, cast, conditional, conditional_type, dereference, dereferenced, identifier, identifier_by, index, has_address, indexed, mark_addressed, mark_at, may_be_cast, means_function, member, member_behind, member_found, member_of, mentioned, mentioned_by, named, negation, number, one, operand_rule, plain, pointed, size_of_type, size_of_value, stepped, takes, takes_type, text, unary_of, updated, variable}
+use Rattle.c_rules.specs.Rules.{address, all_convert, arithmetic, arrow, assigned_by, assignment, binary, call, called, called_type, cast, conditional, conditional_type, dereference, dereferenced, identifier, identifier_by, index, has_address, indexed, mark_addressed, mark_at, may_be_cast, means_function, member, member_behind, member_found, member_of, mentioned, mentioned_by, named, negation, number, one, operand_rule, plain, pointed, size_of_type, size_of_value, stepped, takes, takes_type, text, unary_of, updated, variable}
 use Rattle.c_typed_rows.specs.Contexts.{Context, global_type, local_addressed, local_type}
 use Rattle.c_typed_rows.specs.Expressions.{AssignmentRow, CallRow, ConditionalRow, DereferenceRow, ExprLevel, IndexRow, IsTypedExpr, MemberRow, NameRow, NamedAddressed, PlainRow, UnaryRow, UpdateRow, is_value, is_value_at}
-use Rattle.c_typing_laws.specs.Worlds.{Below, EntityFits, HaveNoParameter, LocalStands, MeaningFits, MeansNoParameter, ScopesFit, local_types}
+use Rattle.c_typing_laws.specs.Worlds.{Below, EntityFits, HaveNoParameter, LocalStands, MeaningFits, MeansNoParameter, local_types}
 use Rattle.c_typing_laws.specs.inner.Goes.{Goes, Sound, after, ends, finds, never, ruled, weaker}
 use Rattle.c_typing_laws.specs.inner.TypedTrees.{IsTypedForm, IsTypedTypeWord}
 use Rattle.c_typing_laws.proofs.RowsStay as stays

@@ -1,7 +1,6 @@
 -- The walk of a statement finds what meets its rows.
 use Rattle.std.proofs.Common.{◌≡◌, ◌∙◌, ℕ, Bool, true, false, not, inl, List, [], ◌∷◌, map, Option, Some, None, slice_get, Ok, Err, refl, ap, sym, subst}
 use Rattle.std.specs.List.{AllByRecursion}
-use Rattle.std.specs.Option.{option_map}
 use Rattle.c_types.specs.declared.ty.Ty.{Ty}
 use Rattle.c_types.specs.Kinds.{is_void}
 use Rattle.c_types.specs.Theorems.{TablesGrow, UnitsStay}
@@ -30,21 +29,20 @@ use Rattle.c_scope.specs.declared.rule.Rule.TheVariants as broken
 use Rattle.c_scope.specs.declared.scopes.Binding.{Binding}
 use Rattle.c_scope.specs.declared.world.World.{World}
 use Rattle.c_scope.specs.Scopes.{enter, leave, outer, within}
-use Rattle.c_scope.specs.Walk.{Outcome, Walk, and_then, each, rule}
+use Rattle.c_scope.specs.Walk.{Outcome, Walk, and_then, rule}
 use Rattle.c_rules.specs.declared.place.Place.TheVariants.{Value}
 use Rattle.c_rules.specs.Operators.{converts, is_scalar_value}
 use Rattle.c_expr_typing.specs.Trees.{typed_expr}
-use Rattle.c_typing.specs.Declarations.{typed_decl}
-use Rattle.c_typing.specs.Statements.{OfBlockItem, block_item_step, block_items, block_step, branches, condition, for_head, for_step, full, jump, optional, optional_condition, return_walked, returned_rules, stmt_step, typed_for_init, walked_statements}
+use Rattle.c_typing.specs.Statements.{block_item_step, block_items, block_step, branches, condition, for_head, for_step, full, jump, optional, optional_condition, return_walked, returned_rules, stmt_step, typed_for_init, walked_statements}
 use Rattle.c_typed_rows.specs.Contexts.{Context, global_type}
 use Rattle.c_typed_rows.specs.Expressions.{IsTypedValue}
-use Rattle.c_typed_rows.specs.Statements.{BlockItemLevel, ForLevel, IfFull, IsTypedBlock, IsTypedCondition, IsTypedDecl, IsTypedForInit, IsTypedFull, ReturnRow, StmtLevel}
+use Rattle.c_typed_rows.specs.Statements.{BlockItemLevel, ForLevel, IfFull, IsTypedBlock, IsTypedCondition, IsTypedForInit, IsTypedFull, ReturnRow, StmtLevel}
 use Rattle.c_typing_laws.specs.Worlds.{Below, HaveNoParameter, ScopesFit, local_types}
 use Rattle.c_typing_laws.specs.inner.Goes.{Goes, Sound, after, ends, never, ruled, weaker}
 use Rattle.c_typing_laws.specs.inner.TypedStatements.{IsTypedBlockItem, IsTypedForLoop, IsTypedStmt}
 use Rattle.c_typing_laws.proofs.DeclarationsMeetRows.{IsWidening, decl-goes, widely, widening}
 use Rattle.c_typing_laws.proofs.WalksMeetRows.{expr-meets}
-use Rattle.c_typing_laws.proofs.WorldSteps.{below-scopes, quiet}
+use Rattle.c_typing_laws.proofs.WorldSteps.{below-scopes}
 
 -- ---- statements whose parts meet their rows
 

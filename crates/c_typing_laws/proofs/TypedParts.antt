@@ -1,22 +1,22 @@
 -- Trees whose parts meet their rows meet theirs.
-use Rattle.std.proofs.Common.{◌≡◌, ℕ, ℤ, List, [], ◌∷◌, map, Option, Some, None, refl, subst}
+use Rattle.std.proofs.Common.{ℕ, ℤ, List, map, Some, None, refl, subst}
 use Rattle.c_tree.specs.declared.operator.AssignOperator.{AssignOperator}
 use Rattle.c_tree.specs.declared.operator.BinaryOperator.{BinaryOperator}
 use Rattle.c_tree.specs.declared.operator.UnaryOperator.{UnaryOperator}
 use Rattle.c_types.specs.declared.ty.Ty.{Ty}
 use Rattle.c_typed.specs.declared.entity.Constant.{Constant}
 use Rattle.c_typed.specs.declared.entity.Entity.{Entity}
-use Rattle.c_typed.specs.declared.expression.TypedDirect.{TypedDirect, every_made-TypedDirect, roll-TypedDirect}
-use Rattle.c_typed.specs.declared.expression.TypedForm.{TypedForm, every_made-TypedForm, roll-TypedForm}
-use Rattle.c_typed.specs.declared.expression.TypedParam.{TypedParam, every_made-TypedParam, roll-TypedParam}
-use Rattle.c_typed.specs.declared.expression.TypedParams.{TypedParams, every_made-TypedParams, roll-TypedParams}
-use Rattle.c_typed.specs.declared.expression.TypedSpec.{TypedSpec, every_made-TypedSpec, roll-TypedSpec}
-use Rattle.c_typed.specs.declared.expression.TypedSuffix.{TypedSuffix, every_made-TypedSuffix, roll-TypedSuffix}
+use Rattle.c_typed.specs.declared.expression.TypedDirect.{TypedDirect, every_made-TypedDirect}
+use Rattle.c_typed.specs.declared.expression.TypedForm.{TypedForm, every_made-TypedForm}
+use Rattle.c_typed.specs.declared.expression.TypedParam.{every_made-TypedParam}
+use Rattle.c_typed.specs.declared.expression.TypedParams.{TypedParams, every_made-TypedParams}
+use Rattle.c_typed.specs.declared.expression.TypedSpec.{TypedSpec, every_made-TypedSpec}
+use Rattle.c_typed.specs.declared.expression.TypedSuffix.{every_made-TypedSuffix}
 use Rattle.c_typed.specs.declared.expression.Declared.{Declared, every_made-Declared, roll-Declared}
 use Rattle.c_typed.specs.declared.expression.TypedAbstractDeclarator.{TypedAbstractDeclarator, every_made-TypedAbstractDeclarator, roll-TypedAbstractDeclarator}
 use Rattle.c_typed.specs.declared.expression.TypedDeclarator.{TypedDeclarator, every_made-TypedDeclarator, roll-TypedDeclarator}
-use Rattle.c_typed.specs.declared.expression.TypedExpr.{TypedExpr, every_made-TypedExpr, roll-TypedExpr}
-use Rattle.c_typed.specs.declared.expression.TypedMemberDecl.{TypedMemberDecl, every_made-TypedMemberDecl, roll-TypedMemberDecl}
+use Rattle.c_typed.specs.declared.expression.TypedExpr.{TypedExpr, every_made-TypedExpr}
+use Rattle.c_typed.specs.declared.expression.TypedMemberDecl.{every_made-TypedMemberDecl, roll-TypedMemberDecl}
 use Rattle.c_typed.specs.declared.expression.TypedTypeWord.{TypedTypeWord, every_made-TypedTypeWord, roll-TypedTypeWord}
 use Rattle.c_typed.specs.declared.expression.TypedDirect.TheVariants as direct
 use Rattle.c_typed.specs.declared.expression.TypedForm.TheVariants as form

@@ -1,6 +1,6 @@
 -- What the changes of a world leave of it: a context that has all that is known behind one has what was known before.
-use Rattle.std.proofs.Common.{◌≡◌, ◌≤◌, ◌∙◌, ℕ, zero, suc, Bool, true, false, not, ◌||◌, ◌&&◌, ◌<◌, if◌then◌else◌, IsTrue, List, [], ◌∷◌, ◌++◌, length, map, Option, Some, None, slice_get, is_none, nat_lt, Ok, Err, refl, ap, sym, subst, arith}
-use Rattle.std.specs.Option.{option_map, option_and_then}
+use Rattle.std.proofs.Common.{◌≡◌, ◌≤◌, ◌∙◌, ℕ, zero, suc, Bool, true, false, ◌&&◌, if◌then◌else◌, List, [], ◌∷◌, ◌++◌, length, map, Option, Some, None, slice_get, is_none, nat_lt, Ok, refl, ap, sym, subst, arith}
+use Rattle.std.specs.Option.{option_and_then}
 use Rattle.std.specs.Str.{bytes_eq}
 use Rattle.std.proofs.lemmas.Option.{slice_get_within}
 use Rattle.c_types.specs.declared.ty.FnTy.{FnTy}
@@ -17,13 +17,13 @@ use Rattle.c_scope.specs.declared.world.KnownFunction.{KnownFunction}
 use Rattle.c_scope.specs.declared.world.World.{World}
 use Rattle.c_scope.specs.BuiltIns.{Name}
 use Rattle.c_scope.specs.Declarations.{define, is_undefined, is_undefined_at}
-use Rattle.c_scope.specs.Definitions.{mark_used, marked}
+use Rattle.c_scope.specs.Definitions.{marked}
 use Rattle.c_scope.specs.Scopes.{known_function, most_tags, new_tag, outer, tag, tag_by, with_function}
 use Rattle.c_scope.specs.Walk.{Outcome}
 use Rattle.c_rules.specs.Rules.{addressed_at}
 use Rattle.c_typed_rows.specs.Contexts.{Context, defined_as}
 use Rattle.c_typing_laws.specs.Worlds.{Below, LocalStands, ScopesFit, local_types}
-use Rattle.c_typing_laws.specs.inner.Goes.{Goes, Relation, Sound, ends, finds, never, ruled}
+use Rattle.c_typing_laws.specs.inner.Goes.{Goes, Relation, Sound, ends, ruled}
 
 -- ---- relations
 

@@ -1,5 +1,5 @@
 -- What a walk leaves of the world, and what holds of all that it finds, where what is known behind it is of this context.
-use Rattle.std.proofs.Common.{◌≡◌, ◌∙◌, ℕ, Bool, true, false, IsTrue, List, [], ◌∷◌, map, Option, Some, None, Ok, Err, refl, ap, sym, subst}
+use Rattle.std.proofs.Common.{◌≡◌, Bool, true, false, IsTrue, List, Option, Some, None, Ok, Err, refl, subst}
 use Rattle.c_types.specs.declared.ty.Ty.{Ty}
 use Rattle.c_scope.specs.declared.rule.Rule.{Rule}
 use Rattle.c_scope.specs.declared.world.World.{World}
