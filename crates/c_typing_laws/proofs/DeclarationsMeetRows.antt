@@ -204,8 +204,8 @@ module _ (stay : UnitsStay) (grow : TablesGrow) (k : Context) (gs : List Ty) (ah
       stepped {a = e} w (record w { locals = w.locals ++ l ∷ []; scopes = ss })
       (record { scopes = outer-bound w.scopes x (means.Variable e t); clean = bound-clean w.scopes x (means.Variable e t) tt; globals = refl; defined = λ y f is. is })
       (λ sound. bound-fits gs (map (λ l. l.ty) (w.locals ++ l ∷ [])) w.scopes x (means.Variable e t)
-          (subst (λ ts. ScopesFit gs ts w.scopes) (sym (types-wider w.locals l)) (scopes-wider gs (local_types w) (t ∷ []) w.scopes sound))
-          (new_type w.locals x t))
+      (subst (λ ts. ScopesFit gs ts w.scopes) (sym (types-wider w.locals l)) (scopes-wider gs (local_types w) (t ∷ []) w.scopes sound))
+      (new_type w.locals x t))
       (λ b. (local-below w l ss b, λ i row. (local_type-of (length w.locals) l (slice_get k.locals (length w.locals)) refl (b.locals (length w.locals) l (at_seam w.locals l)), row)))
 
   -- ---- functions
@@ -283,7 +283,7 @@ module _ (stay : UnitsStay) (grow : TablesGrow) (k : Context) (gs : List Ty) (ah
   all-goes base d o w clean =
       after k gs {P = λ e. (i : Option TypedInit) → IfInit (IsTypedInit k e.0) i → DeclaredRow k e.1 e.0 i} (declare false base d o w) _
       (after k gs (shaped_type base d o w) _ (widely _ (type-goes d.name (completed o (shaped w.structs base d.layers)) (results_fit w.structs base d.layers) w)) (λ t v q.
-       after k gs _ _ (declare-goes d.name t (function_of t) v refl) (λ e u r. ends k gs (λ below holds allowed. holds allowed)))) (λ e v q.
+      after k gs _ _ (declare-goes d.name t (function_of t) v refl) (λ e u r. ends k gs (λ below holds allowed. holds allowed)))) (λ e v q.
       after k gs _ _ (widely _ (optional-goes e.0 o v (q.clean clean))) (λ i u r. ends k gs (λ below hi holds. holds i hi)))
 
   declarator-goes : (base : Ty) (d : InitDeclarator) (w : World) → HaveNoParameter w.scopes

@@ -211,9 +211,9 @@ module _ (stay : UnitsStay) (grow : TablesGrow) (k : Context) (gs : List Ty) (ah
 
     text-goes : (bytes : List ℕ) (n : ℕ) (to : Option Ty) (w : World) → option_and_then walk.char_bound to ≡ Some n → Goes k gs quiet w (given_text bytes n w) (FollowsType to)
     text-goes bytes n to w bound = ruled k gs broken.Form (nat_lt (length bytes) n) _ (λ short. ends k gs (λ below. record {
-        levels = λ c. levels-Text bytes;
-        fits = λ t is. fits-Text k.structs bytes t ∙ ap (passes (nat_lt (length bytes))) (text_target bytes n to t bound is) ∙ short;
-      }))
+      levels = λ c. levels-Text bytes;
+      fits = λ t is. fits-Text k.structs bytes t ∙ ap (passes (nat_lt (length bytes))) (text_target bytes n to t bound is) ∙ short;
+    }))
 
     given-goes : (is_global : Bool) (to : Option Ty) (e : Expr) (o : Option (List ℕ)) (n : Option ℕ) (w : World) → option_and_then walk.char_bound to ≡ n → Here w
         → Goes k gs quiet w (given_by is_global to e o n w) (FollowsType to)

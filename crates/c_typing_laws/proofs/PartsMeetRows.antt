@@ -107,14 +107,19 @@ module _ (stay : UnitsStay) (grow : TablesGrow) (k : Context) (gs : List Ty) (ah
   -- a walk in a scope of its own leaves the scopes as they are
   closed : {A : Type 0} {Q : A → Type 0} (w : World) (o : Outcome (A × World)) → Goes k gs inner (record w { scopes = [] ∷ w.scopes }) o Q
       → Goes k gs quiet w (and_then o (λ x v. Ok (x, record v { scopes = outer v.scopes }))) Q
-  closed {A} {Q} w (Ok a) goes = record { found = λ r is sound.
-      let h = goes.found a refl (tt, sound) in
-      let end : World = record a.1 { scopes = outer a.1.scopes } in
-      let q : IsQuiet w end = record { scopes = h.0.scopes; bodies = h.0.bodies; steady = record { locals = h.0.steady.locals; globals = h.0.steady.globals; defined = h.0.steady.defined } } in
-      let same : (a.0, end) ≡ r = cc in
-      subst (λ (s : A × World). IsQuiet w s.1 × Sound k gs s.1 × (Below k s.1 → Below k w × Q s.0)) same
-      (q, sound-quiet grow k gs w end q sound, λ below.
-       let n = h.2 (below-scopes grow k gs a.1 (outer a.1.scopes) below) in (below-scopes grow k gs w ([] ∷ w.scopes) n.0, n.1)) }
+  closed {A} {Q} w (Ok a) goes = record {
+    found = λ r is sound.
+        let h = goes.found a refl (tt, sound) in
+        let end : World = record a.1 { scopes = outer a.1.scopes } in
+        let q : IsQuiet w end = record { scopes = h.0.scopes; bodies = h.0.bodies; steady = record { locals = h.0.steady.locals; globals = h.0.steady.globals; defined = h.0.steady.defined } } in
+        let same : (a.0, end) ≡ r = cc in
+        subst (λ (s : A × World). IsQuiet w s.1 × Sound k gs s.1 × (Below k s.1 → Below k w × Q s.0)) same (
+          q,
+          sound-quiet grow k gs w end q sound,
+          λ below.
+              let n = h.2 (below-scopes grow k gs a.1 (outer a.1.scopes) below) in (below-scopes grow k gs w ([] ∷ w.scopes) n.0, n.1),
+        );
+  }
   closed w (Err e) goes = never k gs
 
   within-goes : {A : Type 0} {Q : A → Type 0} (p : Walk A) (w : World) → ((v : World) → Goes k gs inner v (p v) Q) → Goes k gs quiet w (within p w) Q
@@ -227,13 +232,16 @@ module _ (stay : UnitsStay) (grow : TablesGrow) (k : Context) (gs : List Ty) (ah
 
   bind-goes : (x : Name) (t : Ty) (w : World) → Goes k gs inner w (bind x (means.Variable entity.Parameter t) w) (λ u. Unit {0})
   unfolding bind
-  bind-goes x t w = record { found = λ r is sound.
-      let end : World = record w { scopes = bound_in w.scopes x (means.Variable entity.Parameter t) } in
-      let same : (tt, end) ≡ r = cc in
-      subst (λ (s : Unit {0} × World). IsInner w s.1 × Sound k gs s.1 × (Below k s.1 → Below k w × Unit {0})) same
-      (record { scopes = outer-bound w.scopes x (means.Variable entity.Parameter t); bodies = λ s. refl; steady = record { locals = refl; globals = refl; defined = λ y f is. is } },
-       bound-fits gs (local_types w) w.scopes x (means.Variable entity.Parameter t) sound tt,
-       λ below. (below-scopes grow k gs w (bound_in w.scopes x (means.Variable entity.Parameter t)) below, tt)) }
+  bind-goes x t w = record {
+    found = λ r is sound.
+        let end : World = record w { scopes = bound_in w.scopes x (means.Variable entity.Parameter t) } in
+        let same : (tt, end) ≡ r = cc in
+        subst (λ (s : Unit {0} × World). IsInner w s.1 × Sound k gs s.1 × (Below k s.1 → Below k w × Unit {0})) same (
+          record { scopes = outer-bound w.scopes x (means.Variable entity.Parameter t); bodies = λ s. refl; steady = record { locals = refl; globals = refl; defined = λ y f is. is } },
+          bound-fits gs (local_types w) w.scopes x (means.Variable entity.Parameter t) sound tt,
+          λ below. (below-scopes grow k gs w (bound_in w.scopes x (means.Variable entity.Parameter t)) below, tt),
+        );
+  }
 
   bind_parameter-goes : (o : Option Name) (t : Ty) (w : World) → Goes k gs inner w (bind_parameter o t w) (λ u. Unit {0})
   bind_parameter-goes None t w = ends k gs (λ below. tt)
@@ -350,10 +358,11 @@ module _ (stay : UnitsStay) (grow : TablesGrow) (k : Context) (gs : List Ty) (ah
   spec-met (Spec-F.TypeName x) = bodiless (Spec-F.TypeName x) (λ bodies w. type_name-goes x w)
   spec-met (Spec-F.Struct x None) = bodiless (Spec-F.Struct x None) (λ bodies w.
       after k gs _ _ (tag-goes grow k gs x w) (λ n v q. ends k gs (λ below any. parts.spec-tag k x)))
-  spec-met (Spec-F.Struct x (Some hs)) =
-      (λ w. along quiet (Spec-F.Struct x (Some (map (λ (h : MetMemberDecl stay grow k gs ahead). h.0) hs))) false w (no_tag x w (body_tag x false w) refl _ _),
-       λ w. along defining (Spec-F.Struct x (Some (map (λ (h : MetMemberDecl stay grow k gs ahead). h.0) hs))) true w
-      (after k gs _ _ (defines _ (body_tag-goes x true w)) (λ n v q.
-      after k gs _ _ (defines _ (members-go hs [] v)) (λ body u r.
-      after k gs _ _ (define-goes grow k gs n body.1 u) (λ _ s m.
-      ends k gs (λ below any hbody any_tag. of_held (IsTypedMember k) (λ ys. IsTypedSpec k (spec.Struct x (Some ys))) (parts.spec-body k x) body.0 hbody))))))
+  spec-met (Spec-F.Struct x (Some hs)) = (
+    λ w. along quiet (Spec-F.Struct x (Some (map (λ (h : MetMemberDecl stay grow k gs ahead). h.0) hs))) false w (no_tag x w (body_tag x false w) refl _ _),
+    λ w. along defining (Spec-F.Struct x (Some (map (λ (h : MetMemberDecl stay grow k gs ahead). h.0) hs))) true w
+        (after k gs _ _ (defines _ (body_tag-goes x true w)) (λ n v q.
+        after k gs _ _ (defines _ (members-go hs [] v)) (λ body u r.
+        after k gs _ _ (define-goes grow k gs n body.1 u) (λ _ s m.
+        ends k gs (λ below any hbody any_tag. of_held (IsTypedMember k) (λ ys. IsTypedSpec k (spec.Struct x (Some ys))) (parts.spec-body k x) body.0 hbody))))),
+  )

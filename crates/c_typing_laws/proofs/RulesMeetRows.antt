@@ -318,9 +318,10 @@ module _ (stay : UnitsStay) (grow : TablesGrow) (k : Context) (gs : List Ty) (ah
   meant-goes : (x : Name) (is_function : Bool) (w : World) → Here w → Sound k gs w
       → Goes k gs quiet w ((if is_function then mentioned x else variable x (meaning_of w.scopes x)) w) Ready
   meant-goes x true w here sound = function-goes x (known_function w.functions x) w refl
-  meant-goes x false w here sound = variable-goes x (meaning_of w.scopes x) w here.locals (λ e t is.
-      (subst (λ us. EntityFits gs us e t) here.locals (fits_in (MeaningFits gs (local_types w)) w.scopes x (means.Variable e t) sound is),
-       λ c. fits_in MeansNoParameter w.scopes x (means.Variable e t) (subst HaveNoParameter (sym here.scopes) c) is))
+  meant-goes x false w here sound = variable-goes x (meaning_of w.scopes x) w here.locals (λ e t is. (
+    subst (λ us. EntityFits gs us e t) here.locals (fits_in (MeaningFits gs (local_types w)) w.scopes x (means.Variable e t) sound is),
+    λ c. fits_in MeansNoParameter w.scopes x (means.Variable e t) (subst HaveNoParameter (sym here.scopes) c) is,
+  ))
 
   if_sound : {A : Type 0} {Q : A → Type 0} (w : World) (o : Outcome (A × World)) → (Sound k gs w → Goes k gs quiet w o Q) → Goes k gs quiet w o Q
   if_sound w o goes = record { found = λ r is sound. (goes sound).found r is sound }
@@ -346,8 +347,11 @@ module _ (stay : UnitsStay) (grow : TablesGrow) (k : Context) (gs : List Ty) (ah
   pub text-goes : (bytes : List ℕ) (w : World) → Goes k gs quiet w (text bytes w) Ready
   unfolding text
   text-goes bytes w = changed grow k gs w _ (quiet-text grow k gs w bytes)
-      (λ b. (below-text grow k gs w bytes b, made (form.Text bytes (length w.strings)) (TypedForm-F.Text bytes (length w.strings)) _ constant.Other (form.outs-Text bytes (length w.strings)) refl tt
-      (λ reads. (parts.form-Text k bytes (length w.strings), record { row = (record { object = b.strings (length w.strings) bytes (at_seam w.strings bytes); ty = refl }, refl); values = refl }))))
+      (λ b. (
+        below-text grow k gs w bytes b,
+        made (form.Text bytes (length w.strings)) (TypedForm-F.Text bytes (length w.strings)) _ constant.Other (form.outs-Text bytes (length w.strings)) refl tt
+            (λ reads. (parts.form-Text k bytes (length w.strings), record { row = (record { object = b.strings (length w.strings) bytes (at_seam w.strings bytes); ty = refl }, refl); values = refl })),
+      ))
 
   -- ---- operators
 
@@ -355,9 +359,10 @@ module _ (stay : UnitsStay) (grow : TablesGrow) (k : Context) (gs : List Ty) (ah
   unfolding binary
   binary-goes x y o w = finds k gs (operand_rule o) (operated w.structs o x y) _ (λ t is. ends k gs (λ b both.
       made (form.Binary x o y) (TypedForm-F.Binary x o y) t _ (form.outs-Binary x o y) refl tt (λ reads.
-      let r = reads-both o (constant_of x) (constant_of y) reads in
-      (parts.form-Binary k x o y (both.0.typed r.0) (both.1.typed r.1),
-       record { row = (stays.operated-stays stay w.structs k.structs b.structs o x y t is, refl); values = two_true (is_value x) (is_value y) both.0.value both.1.value }))))
+      let r = reads-both o (constant_of x) (constant_of y) reads in (
+        parts.form-Binary k x o y (both.0.typed r.0) (both.1.typed r.1),
+        record { row = (stays.operated-stays stay w.structs k.structs b.structs o x y t is, refl); values = two_true (is_value x) (is_value y) both.0.value both.1.value },
+      ))))
 
   chosen-goes : (e x y : TypedExpr) (w : World) → Goes k gs quiet w (conditional_type e x y w) (ConditionalRow e x y)
   unfolding conditional_type
@@ -367,25 +372,28 @@ module _ (stay : UnitsStay) (grow : TablesGrow) (k : Context) (gs : List Ty) (ah
   unfolding conditional
   conditional-goes e x y w = after k gs _ _ (chosen-goes e x y w) (λ t v quiet_so. ends k gs (λ b row all.
       made (form.Conditional e x y) (TypedForm-F.Conditional e x y) t _ (form.outs-Conditional e x y) refl tt (λ reads.
-      let r = reads-conditional (constant_of e) (constant_of x) (constant_of y) reads in
-      (parts.form-Conditional k e x y (all.0.typed r.0) (all.1.typed r.1) (all.2.typed r.2),
-       record { row = (row, refl); values = three_true (is_value e) (is_value x) (is_value y) all.0.value all.1.value all.2.value }))))
+      let r = reads-conditional (constant_of e) (constant_of x) (constant_of y) reads in (
+        parts.form-Conditional k e x y (all.0.typed r.0) (all.1.typed r.1) (all.2.typed r.2),
+        record { row = (row, refl); values = three_true (is_value e) (is_value x) (is_value y) all.0.value all.1.value all.2.value },
+      ))))
 
   -- ---- casts and sizes
 
   pub cast-goes : (t : TypedTypeWord) (x : TypedExpr) (w : World) → Goes k gs quiet w (cast t x w) (λ z. IsTypedTypeWord k t × Ready x → Ready z)
   unfolding cast
   cast-goes t x w = ruled k gs broken.Cast (may_be_cast x (out-TypedTypeWord t).ty) _ (λ castable. ends k gs (λ b both.
-      made (form.Cast t x) (TypedForm-F.Cast t x) (out-TypedTypeWord t).ty _ (form.outs-Cast t x) refl tt (λ reads.
-      (parts.form-Cast k t x both.0 (both.1.typed (reads-cast (out-Ty (out-TypedTypeWord t).ty) (constant_of x) reads)),
-       record { row = (record { castable = castable; ty = refl }, refl); values = one_true (is_value x) both.1.value }))))
+      made (form.Cast t x) (TypedForm-F.Cast t x) (out-TypedTypeWord t).ty _ (form.outs-Cast t x) refl tt (λ reads. (
+        parts.form-Cast k t x both.0 (both.1.typed (reads-cast (out-Ty (out-TypedTypeWord t).ty) (constant_of x) reads)),
+        record { row = (record { castable = castable; ty = refl }, refl); values = one_true (is_value x) both.1.value },
+      ))))
 
   pub size_of_value-goes : (x : TypedExpr) (w : World) → Goes k gs quiet w (size_of_value x w) (λ z. Ready x → Ready z)
   unfolding size_of_value
   size_of_value-goes x w = ruled k gs broken.Unsized (has_units w.structs (type_of x)) _ (λ units. ends k gs (λ b hx.
-      made (form.SizeofExpr x) (TypedForm-F.SizeofExpr x) ty.Int constant.Other (form.outs-SizeofExpr x) refl tt (λ reads.
-      (parts.form-SizeofExpr k x (hx.typed (inl (only_scope reads))),
-       record { row = (record { units = stays.has_units-stays stay w.structs k.structs b.structs (type_of x) units; ty = refl }, refl); values = one_true (is_value x) hx.value }))))
+      made (form.SizeofExpr x) (TypedForm-F.SizeofExpr x) ty.Int constant.Other (form.outs-SizeofExpr x) refl tt (λ reads. (
+        parts.form-SizeofExpr k x (hx.typed (inl (only_scope reads))),
+        record { row = (record { units = stays.has_units-stays stay w.structs k.structs b.structs (type_of x) units; ty = refl }, refl); values = one_true (is_value x) hx.value },
+      ))))
 
   answered_units : (r : Result ℕ LayoutRefusal) (n : ℕ) → result_ok r ≡ Some n → r ≡ Ok n
   answered_units (Ok m) n is = let same : m ≡ n = cc in ap Ok same
@@ -394,9 +402,10 @@ module _ (stay : UnitsStay) (grow : TablesGrow) (k : Context) (gs : List Ty) (ah
   pub size_of_type-goes : (t : TypedTypeWord) (w : World) → Goes k gs quiet w (size_of_type t w) (λ z. IsTypedTypeWord k t → Ready z)
   unfolding size_of_type
   size_of_type-goes t w = finds k gs broken.Unsized (result_ok (units_of w.structs (out-TypedTypeWord t).ty)) _ (λ n is. ends k gs (λ b ht.
-      made (form.SizeofType t) (TypedForm-F.SizeofType t) ty.Int (constant.Value (pos n)) (form.outs-SizeofType t) refl tt (λ reads.
-      (parts.form-SizeofType k t ht,
-       record { row = record { units = n; are = stays.units_of-stays stay w.structs k.structs b.structs (out-TypedTypeWord t).ty n (answered_units (units_of w.structs (out-TypedTypeWord t).ty) n is); ty = refl; value = refl }; values = refl }))))
+      made (form.SizeofType t) (TypedForm-F.SizeofType t) ty.Int (constant.Value (pos n)) (form.outs-SizeofType t) refl tt (λ reads. (
+        parts.form-SizeofType k t ht,
+        record { row = record { units = n; are = stays.units_of-stays stay w.structs k.structs b.structs (out-TypedTypeWord t).ty n (answered_units (units_of w.structs (out-TypedTypeWord t).ty) n is); ty = refl; value = refl }; values = refl },
+      ))))
 
   -- ---- pointers
 
@@ -409,14 +418,16 @@ module _ (stay : UnitsStay) (grow : TablesGrow) (k : Context) (gs : List Ty) (ah
   unfolding index
   index-goes x i w = after k gs _ _ (indexed-goes x i w) (λ t v quiet_so. ends k gs (λ b row both.
       made (form.Index x i) (TypedForm-F.Index x i) t constant.Other (form.outs-Index x i) refl tt (λ reads.
-      let c = only_scope reads in
-      (parts.form-Index k x i (both.0.typed (inl c)) (both.1.typed (inl c)),
-       record { row = (row, refl); values = two_true (is_value x) (is_value i) both.0.value both.1.value }))))
+      let c = only_scope reads in (
+        parts.form-Index k x i (both.0.typed (inl c)) (both.1.typed (inl c)),
+        record { row = (row, refl); values = two_true (is_value x) (is_value i) both.0.value both.1.value },
+      ))))
 
   unary-made : (o : UnaryOperator) (x : TypedExpr) (t : Ty) → UnaryRow k o x t → Ready x → Ready (typed (form.Unary o x) t (of_unary o (constant_of x)))
-  unary-made o x t row hx = made (form.Unary o x) (TypedForm-F.Unary o x) t (of_unary o (constant_of x)) (form.outs-Unary o x) refl tt (λ reads.
-      (parts.form-Unary k o x (hx.typed (reads-unary o (constant_of x) reads)),
-       record { row = (row, refl); values = one_true (is_value x) hx.value }))
+  unary-made o x t row hx = made (form.Unary o x) (TypedForm-F.Unary o x) t (of_unary o (constant_of x)) (form.outs-Unary o x) refl tt (λ reads. (
+    parts.form-Unary k o x (hx.typed (reads-unary o (constant_of x) reads)),
+    record { row = (row, refl); values = one_true (is_value x) hx.value },
+  ))
 
   dereferenced-goes : (x : TypedExpr) (w : World) → Goes k gs quiet w (dereferenced x w) (DereferenceRow k x)
   unfolding dereferenced pointed
@@ -447,10 +458,13 @@ module _ (stay : UnitsStay) (grow : TablesGrow) (k : Context) (gs : List Ty) (ah
 
   mark_at-goes : (node : FormLayer) (w : World) → local_types w ≡ ls → Goes k gs quiet w (mark_at node w) (λ u. LocalThere node → NamedAddressed k node)
   mark_at-goes (TypedForm-F.Identifier y (entity.Local n)) w types =
-      changed grow k gs w _ (quiet-addressed grow k gs w n) (λ b. (below-addressed grow k gs w n b, λ there.
-      let l = typed_at w.locals n there.0 (subst (λ us. slice_get us n ≡ Some there.0) (sym types) there.1) in
-      let m = addressed-there n w.locals l.0 l.1.0 in
-      addressed-row n m.0 (slice_get k.locals n) refl (b.locals n m.0 m.1.0) m.1.1))
+      changed grow k gs w _ (quiet-addressed grow k gs w n) (λ b. (
+        below-addressed grow k gs w n b,
+        λ there.
+            let l = typed_at w.locals n there.0 (subst (λ us. slice_get us n ≡ Some there.0) (sym types) there.1) in
+            let m = addressed-there n w.locals l.0 l.1.0 in
+            addressed-row n m.0 (slice_get k.locals n) refl (b.locals n m.0 m.1.0) m.1.1,
+      ))
   mark_at-goes (TypedForm-F.Identifier y (entity.Global n)) w types = ends k gs (λ b there. tt)
   mark_at-goes (TypedForm-F.Identifier y entity.Parameter) w types = ends k gs (λ b there. tt)
   mark_at-goes (TypedForm-F.Identifier y entity.Function) w types = ends k gs (λ b there. tt)
@@ -490,9 +504,10 @@ module _ (stay : UnitsStay) (grow : TablesGrow) (k : Context) (gs : List Ty) (ah
   pub arrow-goes : (x : TypedExpr) (n : Name) (w : World) → Goes k gs quiet w (arrow x n w) (λ z. Ready x → Ready z)
   unfolding arrow
   arrow-goes x n w = finds k gs broken.Member (member_behind w.structs x n) _ (λ m is. ends k gs (λ b hx.
-      made (form.Arrow x n m.0) (TypedForm-F.Arrow x n m.0) m.1 constant.Other (form.outs-Arrow x n m.0) refl tt (λ reads.
-      (parts.form-Arrow k x n m.0 (hx.typed (inl (only_scope reads))),
-       record { row = (stays.member_behind-stays stay w.structs k.structs b.structs x n m is, refl); values = one_true (is_value x) hx.value }))))
+      made (form.Arrow x n m.0) (TypedForm-F.Arrow x n m.0) m.1 constant.Other (form.outs-Arrow x n m.0) refl tt (λ reads. (
+        parts.form-Arrow k x n m.0 (hx.typed (inl (only_scope reads))),
+        record { row = (stays.member_behind-stays stay w.structs k.structs b.structs x n m is, refl); values = one_true (is_value x) hx.value },
+      ))))
 
   -- ---- calls
 
@@ -548,9 +563,10 @@ module _ (stay : UnitsStay) (grow : TablesGrow) (k : Context) (gs : List Ty) (ah
   unfolding assignment
   assignment-goes x y a w = after k gs _ _ (assigned-goes x y (binary_operator a) w) (λ t v quiet_so. ends k gs (λ b row both.
       made (form.Assign x a y) (TypedForm-F.Assign x a y) t constant.Other (form.outs-Assign x a y) refl tt (λ reads.
-      let c = only_scope reads in
-      (parts.form-Assign k x a y (both.0.typed (inl c)) (both.1.typed (inl c)),
-       record { row = (row, refl); values = two_true (is_value x) (is_value y) both.0.value both.1.value }))))
+      let c = only_scope reads in (
+        parts.form-Assign k x a y (both.0.typed (inl c)) (both.1.typed (inl c)),
+        record { row = (row, refl); values = two_true (is_value x) (is_value y) both.0.value both.1.value },
+      ))))
 
   -- `++` and `--`, of a form whose row this is
   pub stepped-goes : (o : BinaryOperator) (f : TypedExpr → TypedForm) (node : TypedExpr → FormLayer) (x : TypedExpr) (w : World)

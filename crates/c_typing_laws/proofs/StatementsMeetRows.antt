@@ -73,11 +73,11 @@ module _ (k : Context) where
 
   stmt-Break : StmtLevel k TypedStmt-F.Break → IsTypedStmt k stmt.Break
   unfolding IsTypedBlockItem IsTypedStmt IsTypedBlock IsTypedForLoop
-  stmt-Break  level = subst (IsTypedStmt k) stmt.rolls-Break (every_made-TypedStmt (BlockItemLevel k) (StmtLevel k) (λ _. Unit {0}) (ForLevel k) TypedStmt-F.Break TypedStmt-F.Break refl level)
+  stmt-Break level = subst (IsTypedStmt k) stmt.rolls-Break (every_made-TypedStmt (BlockItemLevel k) (StmtLevel k) (λ _. Unit {0}) (ForLevel k) TypedStmt-F.Break TypedStmt-F.Break refl level)
 
   stmt-Continue : StmtLevel k TypedStmt-F.Continue → IsTypedStmt k stmt.Continue
   unfolding IsTypedBlockItem IsTypedStmt IsTypedBlock IsTypedForLoop
-  stmt-Continue  level = subst (IsTypedStmt k) stmt.rolls-Continue (every_made-TypedStmt (BlockItemLevel k) (StmtLevel k) (λ _. Unit {0}) (ForLevel k) TypedStmt-F.Continue TypedStmt-F.Continue refl level)
+  stmt-Continue level = subst (IsTypedStmt k) stmt.rolls-Continue (every_made-TypedStmt (BlockItemLevel k) (StmtLevel k) (λ _. Unit {0}) (ForLevel k) TypedStmt-F.Continue TypedStmt-F.Continue refl level)
 
   stmt-Return : (o : Option TypedFullExpr) → StmtLevel k (TypedStmt-F.Return o) → IsTypedStmt k (stmt.Return o)
   unfolding IsTypedBlockItem IsTypedStmt IsTypedBlock IsTypedForLoop
@@ -127,14 +127,19 @@ module _ (stay : UnitsStay) (grow : TablesGrow) (k : Context) (gs : List Ty) (ah
   -- a walk in a scope of its own leaves the scopes as they are
   closed : {A : Type 0} {Q : A → Type 0} (w : World) (o : Outcome (A × World)) → Goes k gs widening (record w { scopes = [] ∷ w.scopes }) o Q
       → Goes k gs widening w (and_then o (λ x v. Ok (x, record v { scopes = outer v.scopes }))) Q
-  closed {A} {Q} w (Ok a) goes = record { found = λ r is sound.
-      let h = goes.found a refl (tt, sound) in
-      let end : World = record a.1 { scopes = outer a.1.scopes } in
-      let wide : IsWidening w end = record { scopes = ap outer h.0.scopes; clean = λ c. subst HaveNoParameter (sym h.0.scopes) c; globals = h.0.globals; defined = h.0.defined } in
-      let same : (a.0, end) ≡ r = cc in
-      subst (λ (s : A × World). IsWidening w s.1 × Sound k gs s.1 × (Below k s.1 → Below k w × Q s.0)) same
-      (wide, outer-fits gs (local_types a.1) a.1.scopes h.1, λ below.
-       let n = h.2 (below-scopes grow k gs a.1 (outer a.1.scopes) below) in (below-scopes grow k gs w ([] ∷ w.scopes) n.0, n.1)) }
+  closed {A} {Q} w (Ok a) goes = record {
+    found = λ r is sound.
+        let h = goes.found a refl (tt, sound) in
+        let end : World = record a.1 { scopes = outer a.1.scopes } in
+        let wide : IsWidening w end = record { scopes = ap outer h.0.scopes; clean = λ c. subst HaveNoParameter (sym h.0.scopes) c; globals = h.0.globals; defined = h.0.defined } in
+        let same : (a.0, end) ≡ r = cc in
+        subst (λ (s : A × World). IsWidening w s.1 × Sound k gs s.1 × (Below k s.1 → Below k w × Q s.0)) same (
+          wide,
+          outer-fits gs (local_types a.1) a.1.scopes h.1,
+          λ below.
+              let n = h.2 (below-scopes grow k gs a.1 (outer a.1.scopes) below) in (below-scopes grow k gs w ([] ∷ w.scopes) n.0, n.1),
+        );
+  }
   closed w (Err e) goes = never k gs
 
   within-goes : {A : Type 0} {Q : A → Type 0} (p : Walk A) (w : World) → HaveNoParameter w.scopes → ((v : World) → HaveNoParameter v.scopes → Goes k gs widening v (p v) Q) → Goes k gs widening w (within p w) Q

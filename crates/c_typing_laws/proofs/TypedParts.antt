@@ -148,7 +148,6 @@ module _ (k : Context) where
   unfolding IsTypedDirect IsTypedForm IsTypedParam IsTypedParams IsTypedSpec IsTypedSuffix IsTypedDeclared IsTypedAbstract IsTypedDeclarator IsTypedExpr IsTypedMember IsTypedTypeWord
   suffix-Function p hp = subst (IsTypedSuffix k) (suffix.rolls-Function p) (every_made-TypedSuffix (λ _. Unit {0}) (λ _. Unit {0}) (λ _. Unit {0}) (λ _. Unit {0}) (λ _. Unit {0}) (λ _. Unit {0}) (λ _. Unit {0}) (λ _. Unit {0}) (λ _. Unit {0}) (NodeLevel k) (λ _. Unit {0}) (λ _. Unit {0}) (TypedSuffix-F.Function p) (TypedSuffix-F.Function (p, hp)) refl tt)
 
-
   pub form-Call : (x : TypedExpr) → IsTypedExpr k x → (hs : each_held (IsTypedExpr k)) → IsTypedForm k (form.Call x (map (λ h. h.0) hs))
   unfolding IsTypedDirect IsTypedForm IsTypedParam IsTypedParams IsTypedSpec IsTypedSuffix IsTypedDeclared IsTypedAbstract IsTypedDeclarator IsTypedExpr IsTypedMember IsTypedTypeWord
   form-Call x hx hs = subst (IsTypedForm k) (form.rolls-Call x (map (λ h. h.0) hs)) (every_made-TypedForm (λ _. Unit {0}) (λ _. Unit {0}) (λ _. Unit {0}) (λ _. Unit {0}) (λ _. Unit {0}) (λ _. Unit {0}) (λ _. Unit {0}) (λ _. Unit {0}) (λ _. Unit {0}) (NodeLevel k) (λ _. Unit {0}) (λ _. Unit {0}) (TypedForm-F.Call x (map (λ h. h.0) hs)) (TypedForm-F.Call (x, hx) hs) refl tt)
