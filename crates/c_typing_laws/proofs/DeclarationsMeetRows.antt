@@ -70,6 +70,18 @@ widening = record {
   };
 }
 
+-- the same, where no local is declared
+pub record IsNaming (w v : World) : Type 0 where
+  pub wide : IsWidening w v
+  pub locals : local_types v ≡ local_types w
+
+abbrev pub naming : Relation
+naming = record {
+  holds = IsNaming;
+  same = λ w. record { wide = widening.same w; locals = refl };
+  joined = λ w v u first second. record { wide = widening.joined w v u first.wide second.wide; locals = second.locals ∙ first.locals };
+}
+
 pub quiet-is_widening : (w v : World) → IsQuiet w v → IsWidening w v
 quiet-is_widening w v q = record { scopes = ap outer q.scopes; clean = λ c. subst HaveNoParameter (sym q.scopes) c; globals = q.steady.globals; defined = q.steady.defined }
 
@@ -149,7 +161,7 @@ no_function_at : (o : Outer) → function_at o ≡ None → is_function_at o ≡
 no_function_at (Ty-F.Function g) is = cc
 no_function_at _ is = refl
 
-no_function : (t : Ty) → function_of t ≡ None → is_function t ≡ false
+pub no_function : (t : Ty) → function_of t ≡ None → is_function t ≡ false
 unfolding function_of is_function
 no_function t is = no_function_at (out-Ty t) is
 
@@ -158,7 +170,7 @@ shape_function (shape.Whole u) t is = let same : u ≡ t = cc in ap is_function 
 shape_function (shape.Open u) t is = cc
 shape_function (shape.Broken b) t is = cc
 
-declared-ty : (d : TypedDeclarator) (t : Ty) → (out-Declared (declared d t)).ty ≡ t
+pub declared-ty : (d : TypedDeclarator) (t : Ty) → (out-Declared (declared d t)).ty ≡ t
 declared-ty d t = ap (λ e. e.ty) (out-roll-Declared (record { declarator = d; ty = t }))
 
 module _ (stay : UnitsStay) (grow : TablesGrow) (k : Context) (gs : List Ty) (ahead : (n : ℕ) (t : Ty) → slice_get gs n ≡ Some t → global_type k n ≡ Some t) where
@@ -218,41 +230,55 @@ module _ (stay : UnitsStay) (grow : TablesGrow) (k : Context) (gs : List Ty) (ah
     locals = b.locals;
   }
 
-  known-goes : (x : Name) (f : FnTy) (o : Option KnownFunction) (w : World) → Goes k gs widening w (make_known_by x f o w) (λ u. Unit {0})
+  -- a step to a world that is known, where no local is declared
+  renamed_found : {A : Type 0} (Q : A → Type 0) (a : A) (w v : World) → IsNaming w v → (Sound k gs w → Sound k gs v) → (Below k v → Below k w × Q a) → (r : A × World)
+      → (let o : Outcome (A × World) = Ok (a, v) in o) ≡ Ok r → Sound k gs w
+      → IsNaming w r.1 × Sound k gs r.1 × (Below k r.1 → Below k w × Q r.0)
+  renamed_found {A} Q a w v name sound_too below r is sound =
+      let same : (a, v) ≡ r = cc in
+      subst (λ (s : A × World). IsNaming w s.1 × Sound k gs s.1 × (Below k s.1 → Below k w × Q s.0)) same (name, sound_too sound, below)
+
+  renamed : {A : Type 0} {Q : A → Type 0} {a : A} (w v : World) → IsNaming w v → (Sound k gs w → Sound k gs v) → (Below k v → Below k w × Q a) → Goes k gs naming w (Ok (a, v)) Q
+  renamed {A} {Q} {a} w v name sound_too below = record { found = renamed_found Q a w v name sound_too below }
+
+  naming-widely : {A : Type 0} {Q : A → Type 0} {w : World} (o : Outcome (A × World)) → Goes k gs naming w o Q → Goes k gs widening w o Q
+  naming-widely {A} {Q} {w} o goes = record { found = λ r is sound. let h = goes.found r is sound in (h.0.wide, h.1, h.2) }
+
+  known-goes : (x : Name) (f : FnTy) (o : Option KnownFunction) (w : World) → Goes k gs naming w (make_known_by x f o w) (λ u. Unit {0})
   known-goes x f (Some g) w = ends k gs (λ b. tt)
   known-goes x f None w =
       let g : KnownFunction = record { name = x; ty = f; first = w.item; is_used = false; is_defined = false } in
-      stepped {a = tt} w (record w { functions = w.functions ++ g ∷ [] })
-      (record { scopes = refl; clean = λ c. c; globals = refl; defined = λ y h is. known-defines_none w.functions g y h refl is })
+      renamed {a = tt} w (record w { functions = w.functions ++ g ∷ [] })
+      (record { wide = record { scopes = refl; clean = λ c. c; globals = refl; defined = λ y h is. known-defines_none w.functions g y h refl is }; locals = refl })
       (λ sound. sound) (λ b. (known-below w g b, tt))
 
-  bind_function-by : (x : Name) (bound : Bool) (w : World) → Goes k gs widening w ((if bound then pure tt else bind x means.Function) w) (λ u. Unit {0})
+  bind_function-by : (x : Name) (bound : Bool) (w : World) → Goes k gs naming w ((if bound then pure tt else bind x means.Function) w) (λ u. Unit {0})
   unfolding bind
   bind_function-by x true w = ends k gs (λ b. tt)
-  bind_function-by x false w = stepped {a = tt} w (record w { scopes = bound_in w.scopes x means.Function })
-      (record { scopes = outer-bound w.scopes x means.Function; clean = bound-clean w.scopes x means.Function tt; globals = refl; defined = λ y h is. is })
+  bind_function-by x false w = renamed {a = tt} w (record w { scopes = bound_in w.scopes x means.Function })
+      (record { wide = record { scopes = outer-bound w.scopes x means.Function; clean = bound-clean w.scopes x means.Function tt; globals = refl; defined = λ y h is. is }; locals = refl })
       (λ sound. bound-fits gs (local_types w) w.scopes x means.Function sound tt) (λ b. (below-scopes grow k gs w (bound_in w.scopes x means.Function) b, tt))
 
-  named-goes : (x : Name) (f : FnTy) (w : World) → Goes k gs widening w ((make_known x f >> bind_function x) w) (λ u. Unit {0})
+  pub named-goes : (x : Name) (f : FnTy) (w : World) → Goes k gs naming w ((make_known x f >> bind_function x) w) (λ u. Unit {0})
   named-goes x f w = after k gs _ _ (known-goes x f (known_function w.functions x) w) (λ u v q.
       weaker k gs _ (λ s h any. tt) (bind_function-by x (is_bound_here v x) v))
 
   function-by : (x : Name) (f : FnTy) (t : Ty) → t ≡ ty.Function f → (o : Option BuiltIn) (w : World)
-      → Goes k gs widening w (declare_function_by x f o w) (λ e. (i : Option TypedInit) → DeclaredRow k e t i)
+      → Goes k gs naming w (declare_function_by x f o w) (λ e. (i : Option TypedInit) → DeclaredRow k e t i)
   function-by x f t is (Some b) w = ends k gs (λ below i. (f, is))
   function-by x f t is None w = after k gs ((make_known x f >> bind_function x) w) _ (named-goes x f w) (λ s z r. ends k gs (λ below any i. (f, is)))
 
-  function-goes : (x : Name) (f : FnTy) (t : Ty) → t ≡ ty.Function f → (w : World) → Goes k gs widening w (declare_function x f w) (λ e. (i : Option TypedInit) → DeclaredRow k e t i)
+  pub function-goes : (x : Name) (f : FnTy) (t : Ty) → t ≡ ty.Function f → (w : World) → Goes k gs naming w (declare_function x f w) (λ e. (i : Option TypedInit) → DeclaredRow k e t i)
   unfolding declare_function
   function-goes x f t is w = function-by x f t is (built_in_named x) w
 
-  units_alone : (b c : Bool) → b ≡ false → (b || c) ≡ true → c ≡ true
+  pub units_alone : (b c : Bool) → b ≡ false → (b || c) ≡ true → c ≡ true
   units_alone true c never_so allowed = cc
   units_alone false c never_so allowed = allowed
 
   declare-goes : (x : Name) (t : Ty) (o : Option FnTy) (w : World) → function_of t ≡ o
       → Goes k gs widening w (declare_by false x t o w) (λ e. (is_function t || has_units k.structs t) ≡ true → (i : Option TypedInit) → IfInit (IsTypedInit k t) i → DeclaredRow k e t i)
-  declare-goes x t (Some f) w is = weaker k gs _ (λ e holds allowed i h. holds i) (function-goes x f t (function_of-is t f is) w)
+  declare-goes x t (Some f) w is = weaker k gs _ (λ e holds allowed i h. holds i) (naming-widely _ (function-goes x f t (function_of-is t f is) w))
   declare-goes x t None w is = weaker k gs _ (λ e holds allowed i h. holds i (record { units = units_alone (is_function t) (has_units k.structs t) (no_function t is) allowed; init = h })) (variable-goes x t w)
 
   -- ---- declared names
@@ -266,7 +292,7 @@ module _ (stay : UnitsStay) (grow : TablesGrow) (k : Context) (gs : List Ty) (ah
   type_rules-go b t fits w = ruled k gs broken.Unsized (b || has_units w.structs t) _ (λ units.
       form-goes _ fits w (λ below. stays.known_or_units-stays stay w.structs k.structs below.structs b t units))
 
-  type-goes : (x : Name) (s : Shape) (fits : Bool) (w : World) → Goes k gs quiet w (declared_type x s fits w) (λ t. (is_function t || has_units k.structs t) ≡ true)
+  pub type-goes : (x : Name) (s : Shape) (fits : Bool) (w : World) → Goes k gs quiet w (declared_type x s fits w) (λ t. (is_function t || has_units k.structs t) ≡ true)
   unfolding declared_type
   type-goes x s fits w = ruled k gs broken.Redeclared (may_be_declared w x s) _ (λ free. finds k gs broken.Unsized (whole_of s) _ (λ t is.
       after k gs _ _ (type_rules-go (is_function_shape s) t fits w) (λ u v q. ends k gs (λ below holds. subst (λ b. (b || has_units k.structs t) ≡ true) (shape_function s t is) holds))))

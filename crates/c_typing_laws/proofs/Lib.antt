@@ -19,3 +19,4 @@ mod InitialisersMeetRows
 mod DeclarationsMeetRows
 mod StatementsMeetRows
 mod RowsOfWalks
+mod FileDeclarationsMeetRows

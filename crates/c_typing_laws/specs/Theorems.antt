@@ -1,5 +1,5 @@
 -- What holds of the typed forms of sources, and of what each walk finds.
-use Rattle.std.specs.Prelude.{◌≡◌, ℕ, Bool, false, List, Some, slice_get, Ok}
+use Rattle.std.specs.Prelude.{◌≡◌, Bool, true, false, List, ◌++◌, length, map, Some, Ok}
 use Rattle.c_tree.specs.declared.expression.Expr.{Expr}
 use Rattle.c_tree.specs.declared.statement.Block.{Block}
 use Rattle.c_tree.specs.declared.statement.Decl.{Decl}
@@ -19,11 +19,12 @@ use Rattle.c_typing.specs.Declarations.{typed_decl}
 use Rattle.c_typing.specs.Initialisers.{typed_init}
 use Rattle.c_typing.specs.Statements.{typed_block}
 use Rattle.c_typing.specs.Theorems.{HasForm}
-use Rattle.c_typed_rows.specs.Contexts.{Context, global_type}
+use Rattle.c_typed_rows.specs.Contexts.{Context}
 use Rattle.c_typed_rows.specs.Expressions.{IsTypedValue}
 use Rattle.c_typed_rows.specs.Initialisers.{IsTypedInit}
+use Rattle.c_typed_rows.specs.Sources.{are_numbered, declared_globals}
 use Rattle.c_typed_rows.specs.Statements.{IsTypedBlock, IsTypedDecl}
-use Rattle.c_typing_laws.specs.Worlds.{Below, HaveNoParameter, ScopesFit, local_types}
+use Rattle.c_typing_laws.specs.Worlds.{AreFirst, Below, HaveNoParameter, IsFile, ScopesFit, local_types}
 
 -- ---- erasing
 
@@ -36,10 +37,20 @@ TypedSourcesKeepTheirTrees = (s : Source) (t : Typed) → HasForm s t → erased
 -- where a walk begins and ends: global variables of these types are the context's first, names in scope stand for variables
 -- that are there, none for a parameter of a declarator, and the context has all that is known behind the walk
 pub record Between (k : Context) (globals : List Ty) (w new : World) : Type 0 where
-  pub in_order : (n : ℕ) (t : Ty) → slice_get globals n ≡ Some t → global_type k n ≡ Some t
+  pub first : AreFirst k globals
   pub scopes : ScopesFit globals (local_types w) w.scopes
   pub no_parameter : HaveNoParameter w.scopes
   pub known : Below k new
+
+-- what a declaration that is an item leaves, behind global variables of these types
+pub record DeclaresGlobals (globals : List Ty) (x : TypedDecl) (new : World) : Type 0 where
+  pub file : IsFile (globals ++ map (λ g. g.ty) (declared_globals x.declarators)) new
+  pub numbered : are_numbered (length globals) (declared_globals x.declarators)
+  pub rows :
+      (k : Context)
+      → AreFirst k (globals ++ map (λ g. g.ty) (declared_globals x.declarators))
+      → Below k new
+      → IsTypedDecl k x
 
 -- what the walk of a tree finds meets the rows of each of its levels, in each context that has what is known
 pub record WalksMeetRows : Type 0 where
@@ -64,3 +75,9 @@ pub record WalksMeetRows : Type 0 where
       → typed_block k.result b in_loop w ≡ Ok (x, new)
       → Between k globals w new
       → IsTypedBlock k x
+  -- outside functions
+  pub global_declaration :
+      (globals : List Ty) (d : Decl) (w new : World) (x : TypedDecl)
+      → typed_decl true d w ≡ Ok (x, new)
+      → IsFile globals w
+      → DeclaresGlobals globals x new

@@ -1,6 +1,6 @@
 -- What is known at a place of a source, beside a context: what names in scope stand for, and that the context has all that
 -- is known.
-use Rattle.std.specs.Prelude.{◌≡◌, ℕ, true, List, map, Option, Some, None, slice_get}
+use Rattle.std.specs.Prelude.{◌≡◌, ℕ, true, List, [], length, map, Option, Some, None, slice_get}
 use Rattle.std.specs.List.{AllByRecursion}
 use Rattle.c_types.specs.declared.ty.Ty.{Ty}
 use Rattle.c_types.specs.Theorems.{Extends}
@@ -13,7 +13,7 @@ use Rattle.c_scope.specs.declared.scopes.Meaning.TheVariants as means
 use Rattle.c_scope.specs.declared.world.KnownFunction.{KnownFunction}
 use Rattle.c_scope.specs.declared.world.World.{World}
 use Rattle.c_scope.specs.Scopes.{known_function}
-use Rattle.c_typed_rows.specs.Contexts.{Context, Name, defined_as}
+use Rattle.c_typed_rows.specs.Contexts.{Context, Name, defined_as, global_type}
 
 -- ---- scopes
 
@@ -65,3 +65,14 @@ pub record Below (k : Context) (w : World) : Type 0 where
 -- the types of the locals
 abbrev pub local_types : World → List Ty
 local_types w = map (λ l. l.ty) w.locals
+
+-- what is known outside functions, behind global variables of these types
+pub record IsFile (gs : List Ty) (w : World) : Type 0 where
+  pub scopes : ScopesFit gs (local_types w) w.scopes
+  pub no_parameter : HaveNoParameter w.scopes
+  pub no_local : local_types w ≡ []
+  pub count : w.globals ≡ length gs
+
+-- these are the types of the context's first global variables
+abbrev pub AreFirst : Context → List Ty → Type 0
+AreFirst k gs = (n : ℕ) (t : Ty) → slice_get gs n ≡ Some t → global_type k n ≡ Some t
