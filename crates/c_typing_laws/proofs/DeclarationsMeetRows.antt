@@ -206,7 +206,7 @@ module _ (stay : UnitsStay) (grow : TablesGrow) (k : Context) (gs : List Ty) (ah
   new_type [] x t = refl
   new_type (l ∷ ls) x t = new_type ls x t
 
-  variable-goes : (x : Name) (t : Ty) (w : World) → Goes k gs widening w (declare_variable false x t w)
+  pub variable-goes : (x : Name) (t : Ty) (w : World) → Goes k gs widening w (declare_variable false x t w)
       (λ e. (i : Option TypedInit) → VariableRow k t i → DeclaredRow k e t i)
   unfolding declare_variable bind
   variable-goes x t w =

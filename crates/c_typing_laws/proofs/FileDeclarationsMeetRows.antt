@@ -48,18 +48,18 @@ use Rattle.c_typing_laws.proofs.WorldSteps.{at_seam, defining, in_front, quiet}
 -- ---- what a step at the file's level leaves
 
 -- a context with these global variables
-with_globals : List Ty → Context
+pub with_globals : List Ty → Context
 with_globals gs = record { structs = []; functions = []; globals = gs; strings = []; locals = []; result = ty.Void }
 
-are-first : (gs : List Ty) → AreFirst (with_globals gs) gs
+pub are-first : (gs : List Ty) → AreFirst (with_globals gs) gs
 unfolding with_globals
 are-first gs n t is = is
 
 abbrev types_of : List Global → List Ty
 types_of ns = map (λ g. g.ty) ns
 
-record FileStays (gs : List Ty) {A : Type 0} (w : World) (o : Outcome (A × World)) (Q : Context → A → Type 0) : Type 0 where
-  found : (r : A × World) → o ≡ Ok r → IsFile gs w → IsFile gs r.1 × ((k : Context) → AreFirst k gs → Below k r.1 → Below k w × Q k r.0)
+pub record FileStays (gs : List Ty) {A : Type 0} (w : World) (o : Outcome (A × World)) (Q : Context → A → Type 0) : Type 0 where
+  pub found : (r : A × World) → o ≡ Ok r → IsFile gs w → IsFile gs r.1 × ((k : Context) → AreFirst k gs → Below k r.1 → Below k w × Q k r.0)
 
 -- the same, where what is found declares global variables
 pub record FileGoes (gs : List Ty) {A : Type 0} (w : World) (o : Outcome (A × World)) (news : A → List Global) (Q : Context → A → Type 0) : Type 0 where
@@ -70,32 +70,46 @@ pub record FileGoes (gs : List Ty) {A : Type 0} (w : World) (o : Outcome (A × W
 first-behind : (k : Context) (gs more : List Ty) → AreFirst k (gs ++ more) → AreFirst k gs
 first-behind k gs more first n t is = first n t (in_front gs more n t is)
 
-of_quiet : {A : Type 0} {Q : Context → A → Type 0} (gs : List Ty) (w : World) (o : Outcome (A × World)) → ((k : Context) → AreFirst k gs → Goes k gs quiet w o (Q k)) → FileStays gs w o Q
-of_quiet gs w o goes = record { found = λ r is file.
-    let h = (goes (with_globals gs) (are-first gs)).found r is file.scopes in
-    (record { scopes = h.1; no_parameter = subst HaveNoParameter (sym h.0.scopes) file.no_parameter; no_local = h.0.steady.locals ∙ file.no_local; count = h.0.steady.globals ∙ file.count },
-     λ k first below. ((goes k first).found r is file.scopes).2 below) }
+pub of_quiet : {A : Type 0} {Q : Context → A → Type 0} (gs : List Ty) (w : World) (o : Outcome (A × World)) → ((k : Context) → AreFirst k gs → Goes k gs quiet w o (Q k)) → FileStays gs w o Q
+of_quiet gs w o goes = record {
+  found = λ r is file.
+      let h = (goes (with_globals gs) (are-first gs)).found r is file.scopes in (
+        record { scopes = h.1; no_parameter = subst HaveNoParameter (sym h.0.scopes) file.no_parameter; no_local = h.0.steady.locals ∙ file.no_local; count = h.0.steady.globals ∙ file.count },
+        λ k first below. ((goes k first).found r is file.scopes).2 below,
+      );
+}
 
 of_defining : {A : Type 0} {Q : Context → A → Type 0} (gs : List Ty) (w : World) (o : Outcome (A × World)) → ((k : Context) → AreFirst k gs → Goes k gs defining w o (Q k)) → FileStays gs w o Q
-of_defining gs w o goes = record { found = λ r is file.
-    let h = (goes (with_globals gs) (are-first gs)).found r is file.scopes in
-    (record { scopes = h.1; no_parameter = subst HaveNoParameter (sym h.0.scopes) file.no_parameter; no_local = h.0.steady.locals ∙ file.no_local; count = h.0.steady.globals ∙ file.count },
-     λ k first below. ((goes k first).found r is file.scopes).2 below) }
+of_defining gs w o goes = record {
+  found = λ r is file.
+      let h = (goes (with_globals gs) (are-first gs)).found r is file.scopes in (
+        record { scopes = h.1; no_parameter = subst HaveNoParameter (sym h.0.scopes) file.no_parameter; no_local = h.0.steady.locals ∙ file.no_local; count = h.0.steady.globals ∙ file.count },
+        λ k first below. ((goes k first).found r is file.scopes).2 below,
+      );
+}
 
-of_naming : {A : Type 0} {Q : Context → A → Type 0} (gs : List Ty) (w : World) (o : Outcome (A × World)) → ((k : Context) → AreFirst k gs → Goes k gs naming w o (Q k)) → FileStays gs w o Q
-of_naming gs w o goes = record { found = λ r is file.
-    let h = (goes (with_globals gs) (are-first gs)).found r is file.scopes in
-    (record { scopes = h.1; no_parameter = h.0.wide.clean file.no_parameter; no_local = h.0.locals ∙ file.no_local; count = h.0.wide.globals ∙ file.count },
-     λ k first below. ((goes k first).found r is file.scopes).2 below) }
+pub of_naming : {A : Type 0} {Q : Context → A → Type 0} (gs : List Ty) (w : World) (o : Outcome (A × World)) → ((k : Context) → AreFirst k gs → Goes k gs naming w o (Q k)) → FileStays gs w o Q
+of_naming gs w o goes = record {
+  found = λ r is file.
+      let h = (goes (with_globals gs) (are-first gs)).found r is file.scopes in (
+        record { scopes = h.1; no_parameter = h.0.wide.clean file.no_parameter; no_local = h.0.locals ∙ file.no_local; count = h.0.wide.globals ∙ file.count },
+        λ k first below. ((goes k first).found r is file.scopes).2 below,
+      );
+}
 
 behind : {A B : Type 0} {P : Context → A → Type 0} {Q : Context → B → Type 0} {news : B → List Global} (gs : List Ty) (w : World) (o : Outcome (A × World)) (f : A → Walk B)
     → FileStays gs w o P → ((a : A) (v : World) → FileGoes gs v (f a v) news (λ k b. P k a → Q k b)) → FileGoes gs w (and_then o f) news Q
-behind {news = news} gs w (Ok a) f first rest = record { found = λ r is file.
-    let h = first.found a refl file in
-    let g = (rest a.0 a.1).found r is h.0 in
-    (g.0, g.1, λ k ahead below.
-     let m = g.2 k ahead below in
-     let n = h.1 k (first-behind k gs (types_of (news r.0)) ahead) m.0 in (n.0, m.1 n.1)) }
+behind {news = news} gs w (Ok a) f first rest = record {
+  found = λ r is file.
+      let h = first.found a refl file in
+      let g = (rest a.0 a.1).found r is h.0 in (
+        g.0,
+        g.1,
+        λ k ahead below.
+            let m = g.2 k ahead below in
+            let n = h.1 k (first-behind k gs (types_of (news r.0)) ahead) m.0 in (n.0, m.1 n.1),
+      );
+}
 behind gs w (Err e) f first rest = record { found = λ r is. cc }
 
 abbrev Left : {A : Type 0} → List Ty → World → (A → List Global) → (Context → A → Type 0) → A × World → Type 0
@@ -113,20 +127,26 @@ left-same gs w v news Q a r is left =
 -- nothing is declared
 ends_file : {A : Type 0} {Q : Context → A → Type 0} {news : A → List Global} (gs : List Ty) (a : A) (w : World) → news a ≡ [] → ((k : Context) → AreFirst k gs → Below k w → Q k a)
     → FileGoes gs w (Ok (a, w)) news Q
-ends_file {A} {Q} {news} gs a w none holds = record { found = λ r is file. left-same gs w w news Q a r is
-    (subst (λ ns. IsFile (gs ++ types_of ns) w) (sym none) (subst (λ hs. IsFile hs w) (sym (append-nil gs)) file),
-     subst (are_numbered (length gs)) (sym none) tt,
-     λ k ahead below. (below, holds k (first-behind k gs (types_of (news a)) ahead) below)) }
+ends_file {A} {Q} {news} gs a w none holds = record {
+  found = λ r is file. left-same gs w w news Q a r is (
+    subst (λ ns. IsFile (gs ++ types_of ns) w) (sym none) (subst (λ hs. IsFile hs w) (sym (append-nil gs)) file),
+    subst (are_numbered (length gs)) (sym none) tt,
+    λ k ahead below. (below, holds k (first-behind k gs (types_of (news a)) ahead) below),
+  );
+}
 
 -- another form of what is found
 mapped : {A B : Type 0} {P : Context → A → Type 0} {Q : Context → B → Type 0} {news : A → List Global} {renewed : B → List Global} (gs : List Ty) (w : World) (o : Outcome (A × World)) (g : A → B)
     → ((a : A) → renewed (g a) ≡ news a) → ((k : Context) (a : A) → P k a → Q k (g a)) → FileGoes gs w o news P → FileGoes gs w (and_then o (λ a. pure (g a))) renewed Q
-mapped {Q = Q} {news = news} {renewed = renewed} gs w (Ok a) g same holds goes = record { found = λ r is file.
-    let h = goes.found a refl file in
-    left-same gs w a.1 renewed Q (g a.0) r is
-    (subst (λ ns. IsFile (gs ++ types_of ns) a.1) (sym (same a.0)) h.0,
-     subst (are_numbered (length gs)) (sym (same a.0)) h.1,
-     λ k ahead below. let m = h.2 k (subst (λ ns. AreFirst k (gs ++ types_of ns)) (same a.0) ahead) below in (m.0, holds k a.0 m.1)) }
+mapped {Q = Q} {news = news} {renewed = renewed} gs w (Ok a) g same holds goes = record {
+  found = λ r is file.
+      let h = goes.found a refl file in
+      left-same gs w a.1 renewed Q (g a.0) r is (
+        subst (λ ns. IsFile (gs ++ types_of ns) a.1) (sym (same a.0)) h.0,
+        subst (are_numbered (length gs)) (sym (same a.0)) h.1,
+        λ k ahead below. let m = h.2 k (subst (λ ns. AreFirst k (gs ++ types_of ns)) (same a.0) ahead) below in (m.0, holds k a.0 m.1),
+      );
+}
 mapped gs w (Err e) g same holds goes = record { found = λ r is. cc }
 
 -- a step that declares, and one that doesn't
@@ -137,13 +157,14 @@ joined_by : {A I B : Type 0} (P : Context → A → Type 0) (S : A → Context �
     → (r : B × World) → and_then o (λ i. pure (g a.0 i)) ≡ Ok r → Left gs w renewed Q r
 joined_by P S Q news renewed gs w a (Ok i) g same holds h stays r is =
     let s = stays.found i refl h.0 in
-    left-same gs w i.1 renewed Q (g a.0 i.0) r is
-    (subst (λ ns. IsFile (gs ++ types_of ns) i.1) (sym (same a.0 i.0)) s.0,
-     subst (are_numbered (length gs)) (sym (same a.0 i.0)) h.1,
-     λ k ahead below.
-       let first = subst (λ ns. AreFirst k (gs ++ types_of ns)) (same a.0 i.0) ahead in
-       let m = s.1 k first below in
-       let n = h.2 k first m.0 in (n.0, holds k a.0 i.0 n.1 m.1))
+    left-same gs w i.1 renewed Q (g a.0 i.0) r is (
+      subst (λ ns. IsFile (gs ++ types_of ns) i.1) (sym (same a.0 i.0)) s.0,
+      subst (are_numbered (length gs)) (sym (same a.0 i.0)) h.1,
+      λ k ahead below.
+          let first = subst (λ ns. AreFirst k (gs ++ types_of ns)) (same a.0 i.0) ahead in
+          let m = s.1 k first below in
+          let n = h.2 k first m.0 in (n.0, holds k a.0 i.0 n.1 m.1),
+    )
 joined_by P S Q news renewed gs w a (Err e) g same holds h stays r is = cc
 
 then_stays : {A I B : Type 0} {P : Context → A → Type 0} {S : A → Context → I → Type 0} {Q : Context → B → Type 0} {news : A → List Global} {renewed : B → List Global}
@@ -151,9 +172,11 @@ then_stays : {A I B : Type 0} {P : Context → A → Type 0} {S : A → Context 
     → ((b : A) (i : I) → renewed (g b i) ≡ news b) → ((k : Context) (b : A) (i : I) → P k b → S b k i → Q k (g b i))
     → FileGoes gs w o news P → ((b : A) (v : World) → IsFile (gs ++ types_of (news b)) v → FileStays (gs ++ types_of (news b)) v (p b v) (S b))
     → FileGoes gs w (and_then o (λ b. p b >>= (λ i. pure (g b i)))) renewed Q
-then_stays {P = P} {S = S} {Q = Q} {news = news} {renewed = renewed} gs w (Ok a) p g same holds goes rest = record { found = λ r is file.
-    let h = goes.found a refl file in
-    joined_by P S Q news renewed gs w a (p a.0 a.1) g same holds h (rest a.0 a.1 h.0) r is }
+then_stays {P = P} {S = S} {Q = Q} {news = news} {renewed = renewed} gs w (Ok a) p g same holds goes rest = record {
+  found = λ r is file.
+      let h = goes.found a refl file in
+      joined_by P S Q news renewed gs w a (p a.0 a.1) g same holds h (rest a.0 a.1 h.0) r is;
+}
 then_stays gs w (Err e) p g same holds goes rest = record { found = λ r is. cc }
 
 -- less is asked
@@ -193,19 +216,22 @@ last_at gs t n is = ap (slice_get (gs ++ t ∷ [])) is ∙ at_seam gs t
 file_variable : (gs : List Ty) (x : Name) (t : Ty) (w : World)
     → FileGoes gs w (declare_variable true x t w) (λ e. global_by e t) (λ k e. (i : Option TypedInit) → VariableRow k t i → DeclaredRow k e t i)
 unfolding declare_variable bind
-file_variable gs x t w = record { found = λ r is file.
-    let e : Entity = entity.Global w.globals in
-    let ss : List (List Binding) = bound_in w.scopes x (means.Variable e t) in
-    let last : slice_get (gs ++ t ∷ []) w.globals ≡ Some t = last_at gs t w.globals file.count in
-    left-same gs w (record w { globals = w.globals + 1; scopes = ss }) (λ e. global_by e t) (λ k e. (i : Option TypedInit) → VariableRow k t i → DeclaredRow k e t i) e r is
-    (record {
-       scopes = bound-fits (gs ++ t ∷ []) (local_types w) w.scopes x (means.Variable e t) (scopes-more gs (t ∷ []) (local_types w) w.scopes file.scopes) last;
-       no_parameter = bound-clean w.scopes x (means.Variable e t) tt file.no_parameter;
-       no_local = file.no_local;
-       count = ap (λ n. n + 1) file.count ∙ sym (length_seam gs t);
-     },
-     (file.count, tt),
-     λ k ahead below. (record { structs = below.structs; functions = below.functions; strings = below.strings; locals = below.locals }, λ i row. (ahead w.globals t last, row))) }
+file_variable gs x t w = record {
+  found = λ r is file.
+      let e : Entity = entity.Global w.globals in
+      let ss : List (List Binding) = bound_in w.scopes x (means.Variable e t) in
+      let last : slice_get (gs ++ t ∷ []) w.globals ≡ Some t = last_at gs t w.globals file.count in
+      left-same gs w (record w { globals = w.globals + 1; scopes = ss }) (λ e. global_by e t) (λ k e. (i : Option TypedInit) → VariableRow k t i → DeclaredRow k e t i) e r is (
+        record {
+          scopes = bound-fits (gs ++ t ∷ []) (local_types w) w.scopes x (means.Variable e t) (scopes-more gs (t ∷ []) (local_types w) w.scopes file.scopes) last;
+          no_parameter = bound-clean w.scopes x (means.Variable e t) tt file.no_parameter;
+          no_local = file.no_local;
+          count = ap (λ n. n + 1) file.count ∙ sym (length_seam gs t);
+        },
+        (file.count, tt),
+        λ k ahead below. (record { structs = below.structs; functions = below.functions; strings = below.strings; locals = below.locals }, λ i row. (ahead w.globals t last, row)),
+      );
+}
 
 -- ---- lists
 
@@ -234,21 +260,24 @@ module _ (Q : Context → TypedInitDeclarator → Type 0) where
       → (r : List TypedInitDeclarator × World) → and_then o (λ xs. pure (a.0 ∷ xs)) ≡ Ok r → Left gs w declared_globals (λ k. AllByRecursion (Q k)) r
   second_by gs w a (Ok b) h goes r is =
       let g = goes.found b refl h.0 in
-      left-same gs w b.1 declared_globals (λ k. AllByRecursion (Q k)) (a.0 ∷ b.0) r is
-      (subst (λ hs. IsFile hs b.1) (types-regroup gs (one a.0) (declared_globals b.0)) g.0,
-       numbered-joined (length gs) _ (one a.0) (declared_globals b.0) (length-types gs (one a.0)) h.1 g.1,
-       λ k ahead below.
-         let all = subst (AreFirst k) (sym (types-regroup gs (one a.0) (declared_globals b.0))) ahead in
-         let m = g.2 k all below in
-         let n = h.2 k (first-behind k (gs ++ types_of (one a.0)) (types_of (declared_globals b.0)) all) m.0 in (n.0, (n.1, m.1)))
+      left-same gs w b.1 declared_globals (λ k. AllByRecursion (Q k)) (a.0 ∷ b.0) r is (
+        subst (λ hs. IsFile hs b.1) (types-regroup gs (one a.0) (declared_globals b.0)) g.0,
+        numbered-joined (length gs) _ (one a.0) (declared_globals b.0) (length-types gs (one a.0)) h.1 g.1,
+        λ k ahead below.
+            let all = subst (AreFirst k) (sym (types-regroup gs (one a.0) (declared_globals b.0))) ahead in
+            let m = g.2 k all below in
+            let n = h.2 k (first-behind k (gs ++ types_of (one a.0)) (types_of (declared_globals b.0)) all) m.0 in (n.0, (n.1, m.1)),
+      )
   second_by gs w a (Err e) h goes r is = cc
 
   cons_file : (gs : List Ty) (w : World) (o : Outcome (TypedInitDeclarator × World)) (rest : Walk (List TypedInitDeclarator))
       → FileGoes gs w o one Q → ((hs : List Ty) (v : World) → IsFile hs v → FileGoes hs v (rest v) declared_globals (λ k. AllByRecursion (Q k)))
       → FileGoes gs w (and_then o (λ x. rest >>= (λ xs. pure (x ∷ xs)))) declared_globals (λ k. AllByRecursion (Q k))
-  cons_file gs w (Ok a) rest goes later = record { found = λ r is file.
-      let h = goes.found a refl file in
-      second_by gs w a (rest a.1) h (later (gs ++ types_of (one a.0)) a.1 h.0) r is }
+  cons_file gs w (Ok a) rest goes later = record {
+    found = λ r is file.
+        let h = goes.found a refl file in
+        second_by gs w a (rest a.1) h (later (gs ++ types_of (one a.0)) a.1 h.0) r is;
+  }
   cons_file gs w (Err e) rest goes later = record { found = λ r is. cc }
 
 -- ---- declarations
@@ -299,8 +328,8 @@ module _ (stay : UnitsStay) (grow : TablesGrow) where
   declarator-file gs base d w = behind {P = λ k x. IsTypedDeclarator k x.tree} gs w (typed_declarator d.declarator w) _
       (of_quiet gs w (typed_declarator d.declarator w) (λ k first. declarator-meets stay grow k gs first d.declarator w))
       (λ x v. mapped gs v (declare_all true base x d.init v) (λ e. record { declared = declared x.tree e.0; entity = e.1; init = e.2 }) (λ e. ap (global_by e.1) (declared-ty x.tree e.0))
-          (λ k e row hx. record { bounds = parts.declared-made k x.tree e.0 hx; row = subst (λ t. DeclaredRow k e.1 t e.2) (sym (declared-ty x.tree e.0)) row })
-          (all-file gs base x d.init v))
+      (λ k e row hx. record { bounds = parts.declared-made k x.tree e.0 hx; row = subst (λ t. DeclaredRow k e.1 t e.2) (sym (declared-ty x.tree e.0)) row })
+      (all-file gs base x d.init v))
 
   declarators-file : (gs : List Ty) (base : Ty) (ds : List InitDeclarator) (w : World)
       → FileGoes gs w (each (map (typed_init_declarator true base) ds) w) declared_globals (λ k. AllByRecursion (IsTypedInitDeclarator k))
@@ -313,4 +342,4 @@ module _ (stay : UnitsStay) (grow : TablesGrow) where
   decl-file gs d w = behind {P = λ k base. IsTypedSpec k base.0} gs w (typed_spec d.spec true w) _
       (of_defining gs w (typed_spec d.spec true w) (λ k first. (spec-meets stay grow k gs first d.spec).1 w))
       (λ base v. mapped gs v (each (map (typed_init_declarator true base.1) d.declarators) v) (λ ds. record { spec = base.0; declarators = ds }) (λ ds. refl)
-          (λ k ds hds hb. record { spec = hb; declarators = hds }) (declarators-file gs base.1 d.declarators v))
+      (λ k ds hds hb. record { spec = hb; declarators = hds }) (declarators-file gs base.1 d.declarators v))

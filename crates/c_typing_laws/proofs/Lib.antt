@@ -20,3 +20,4 @@ mod DeclarationsMeetRows
 mod StatementsMeetRows
 mod RowsOfWalks
 mod FileDeclarationsMeetRows
+mod FunctionsMeetRows

@@ -6,6 +6,7 @@ use Rattle.c_typing_laws.specs.Theorems.{WalksMeetRows}
 use Rattle.c_typing_laws.specs.Worlds.{local_types}
 use Rattle.c_typing_laws.proofs.DeclarationsMeetRows.{decl-goes}
 use Rattle.c_typing_laws.proofs.FileDeclarationsMeetRows.{decl-file}
+use Rattle.c_typing_laws.proofs.FunctionsMeetRows.{function-file}
 use Rattle.c_typing_laws.proofs.InitialisersMeetRows.{init-meets}
 use Rattle.c_typing_laws.proofs.StatementsMeetRows.{block-meets}
 use Rattle.c_typing_laws.proofs.WalksMeetRows.{expr-meets}
@@ -23,4 +24,7 @@ walks-meet stay grow = record {
   global_declaration = λ gs d w new x is file.
       let h = (decl-file stay grow gs d w).found (x, new) is file in
       record { file = h.0; numbered = h.1; rows = λ k first below. (h.2 k first below).1 };
+  definition = λ gs s base d b w new f is file.
+      let h = (function-file stay grow gs s base d b w).found (f, new) is file in
+      record { file = h.0; rows = λ k first below. (h.1 k first below).1 };
 }

@@ -1,26 +1,33 @@
 -- What holds of the typed forms of sources, and of what each walk finds.
 use Rattle.std.specs.Prelude.{◌≡◌, Bool, true, false, List, ◌++◌, length, map, Some, Ok}
+use Rattle.c_tree.specs.declared.expression.Declarator.{Declarator}
 use Rattle.c_tree.specs.declared.expression.Expr.{Expr}
 use Rattle.c_tree.specs.declared.statement.Block.{Block}
 use Rattle.c_tree.specs.declared.statement.Decl.{Decl}
 use Rattle.c_tree.specs.declared.statement.Init.{Init}
 use Rattle.c_tree.specs.declared.statement.Unit.{Unit as Source}
+use Rattle.c_types.specs.declared.ty.FnTy.{FnTy, out-FnTy}
 use Rattle.c_types.specs.declared.ty.Ty.{Ty}
+use Rattle.c_types.specs.declared.ty.Ty.TheVariants as ty
+use Rattle.c_typed.specs.declared.expression.Declared.{out-Declared}
 use Rattle.c_typed.specs.declared.expression.TypedExpr.{TypedExpr}
+use Rattle.c_typed.specs.declared.expression.TypedSpec.{TypedSpec}
 use Rattle.c_typed.specs.declared.statement.TypedBlock.{TypedBlock}
 use Rattle.c_typed.specs.declared.statement.TypedDecl.{TypedDecl}
 use Rattle.c_typed.specs.declared.statement.TypedInit.{TypedInit}
 use Rattle.c_typed.specs.declared.unit.Typed.{Typed}
+use Rattle.c_typed.specs.declared.unit.TypedFn.{TypedFn}
 use Rattle.c_typed.specs.Erased.{erased}
 use Rattle.c_scope.specs.declared.world.World.{World}
 use Rattle.c_rules.specs.declared.place.Place.TheVariants.{Value}
 use Rattle.c_expr_typing.specs.Trees.{typed_expr}
 use Rattle.c_typing.specs.Declarations.{typed_decl}
+use Rattle.c_typing.specs.Functions.{typed_function}
 use Rattle.c_typing.specs.Initialisers.{typed_init}
 use Rattle.c_typing.specs.Statements.{typed_block}
 use Rattle.c_typing.specs.Theorems.{HasForm}
 use Rattle.c_typed_rows.specs.Contexts.{Context}
-use Rattle.c_typed_rows.specs.Expressions.{IsTypedValue}
+use Rattle.c_typed_rows.specs.Expressions.{IsTypedDeclared, IsTypedValue}
 use Rattle.c_typed_rows.specs.Initialisers.{IsTypedInit}
 use Rattle.c_typed_rows.specs.Sources.{are_numbered, declared_globals}
 use Rattle.c_typed_rows.specs.Statements.{IsTypedBlock, IsTypedDecl}
@@ -52,6 +59,18 @@ pub record DeclaresGlobals (globals : List Ty) (x : TypedDecl) (new : World) : T
       → Below k new
       → IsTypedDecl k x
 
+-- a definition of a function, whose block meets its rows in a context of the function's own variables and result
+pub record DefinesFunction (k : Context) (f : TypedFn) : Type 0 where
+  pub type : FnTy
+  pub ty : (out-Declared f.declared).ty ≡ ty.Function type
+  pub bounds : IsTypedDeclared k f.declared
+  pub block : IsTypedBlock (record k { locals = f.locals; result = (out-FnTy type).result }) f.block
+
+-- what a definition leaves, behind global variables of these types
+pub record LeavesFile (globals : List Ty) (f : TypedFn) (new : World) : Type 0 where
+  pub file : IsFile globals new
+  pub rows : (k : Context) → AreFirst k globals → Below k new → DefinesFunction k f
+
 -- what the walk of a tree finds meets the rows of each of its levels, in each context that has what is known
 pub record WalksMeetRows : Type 0 where
   pub expression :
@@ -81,3 +100,8 @@ pub record WalksMeetRows : Type 0 where
       → typed_decl true d w ≡ Ok (x, new)
       → IsFile globals w
       → DeclaresGlobals globals x new
+  pub definition :
+      (globals : List Ty) (s : TypedSpec) (base : Ty) (d : Declarator) (b : Block) (w new : World) (f : TypedFn)
+      → typed_function s base d b w ≡ Ok (f, new)
+      → IsFile globals w
+      → LeavesFile globals f new
