@@ -252,6 +252,21 @@ module _ (stay : UnitsStay) (grow : TablesGrow) (k : Context) (gs : List Ty) (ah
       (record { wide = record { scopes = refl; clean = λ c. c; globals = refl; defined = λ y h is. known-defines_none w.functions g y h refl is }; locals = refl })
       (λ sound. sound) (λ b. (known-below w g b, tt))
 
+  pub bind_type-goes : (x : Name) (t : Ty) (w : World) → Goes k gs naming w ((bind x (means.TypeName t) >> pure t) w) (λ u. Unit {0})
+  unfolding bind
+  bind_type-goes x t w =
+      renamed {a = t} w (record w { scopes = bound_in w.scopes x (means.TypeName t) })
+      (record {
+          wide = record {
+            scopes = outer-bound w.scopes x (means.TypeName t);
+            clean = bound-clean w.scopes x (means.TypeName t) tt;
+            globals = refl;
+            defined = λ y h is. is;
+          };
+          locals = refl;
+        })
+      (λ sound. bound-fits gs (local_types w) w.scopes x (means.TypeName t) sound tt) (λ b. (below-scopes grow k gs w (bound_in w.scopes x (means.TypeName t)) b, tt))
+
   bind_function-by : (x : Name) (bound : Bool) (w : World) → Goes k gs naming w ((if bound then pure tt else bind x means.Function) w) (λ u. Unit {0})
   unfolding bind
   bind_function-by x true w = ends k gs (λ b. tt)

@@ -55,7 +55,7 @@ pub are-first : (gs : List Ty) → AreFirst (with_globals gs) gs
 unfolding with_globals
 are-first gs n t is = is
 
-abbrev types_of : List Global → List Ty
+abbrev pub types_of : List Global → List Ty
 types_of ns = map (λ g. g.ty) ns
 
 pub record FileStays (gs : List Ty) {A : Type 0} (w : World) (o : Outcome (A × World)) (Q : Context → A → Type 0) : Type 0 where
@@ -67,7 +67,7 @@ pub record FileGoes (gs : List Ty) {A : Type 0} (w : World) (o : Outcome (A × W
       → IsFile (gs ++ types_of (news r.0)) r.1 × are_numbered (length gs) (news r.0)
       × ((k : Context) → AreFirst k (gs ++ types_of (news r.0)) → Below k r.1 → Below k w × Q k r.0)
 
-first-behind : (k : Context) (gs more : List Ty) → AreFirst k (gs ++ more) → AreFirst k gs
+pub first-behind : (k : Context) (gs more : List Ty) → AreFirst k (gs ++ more) → AreFirst k gs
 first-behind k gs more first n t is = first n t (in_front gs more n t is)
 
 pub of_quiet : {A : Type 0} {Q : Context → A → Type 0} (gs : List Ty) (w : World) (o : Outcome (A × World)) → ((k : Context) → AreFirst k gs → Goes k gs quiet w o (Q k)) → FileStays gs w o Q
@@ -79,7 +79,7 @@ of_quiet gs w o goes = record {
       );
 }
 
-of_defining : {A : Type 0} {Q : Context → A → Type 0} (gs : List Ty) (w : World) (o : Outcome (A × World)) → ((k : Context) → AreFirst k gs → Goes k gs defining w o (Q k)) → FileStays gs w o Q
+pub of_defining : {A : Type 0} {Q : Context → A → Type 0} (gs : List Ty) (w : World) (o : Outcome (A × World)) → ((k : Context) → AreFirst k gs → Goes k gs defining w o (Q k)) → FileStays gs w o Q
 of_defining gs w o goes = record {
   found = λ r is file.
       let h = (goes (with_globals gs) (are-first gs)).found r is file.scopes in (
@@ -97,7 +97,7 @@ of_naming gs w o goes = record {
       );
 }
 
-behind : {A B : Type 0} {P : Context → A → Type 0} {Q : Context → B → Type 0} {news : B → List Global} (gs : List Ty) (w : World) (o : Outcome (A × World)) (f : A → Walk B)
+pub behind : {A B : Type 0} {P : Context → A → Type 0} {Q : Context → B → Type 0} {news : B → List Global} (gs : List Ty) (w : World) (o : Outcome (A × World)) (f : A → Walk B)
     → FileStays gs w o P → ((a : A) (v : World) → FileGoes gs v (f a v) news (λ k b. P k a → Q k b)) → FileGoes gs w (and_then o f) news Q
 behind {news = news} gs w (Ok a) f first rest = record {
   found = λ r is file.
@@ -125,7 +125,7 @@ left-same gs w v news Q a r is left =
     subst (Left gs w news Q) same left
 
 -- nothing is declared
-ends_file : {A : Type 0} {Q : Context → A → Type 0} {news : A → List Global} (gs : List Ty) (a : A) (w : World) → news a ≡ [] → ((k : Context) → AreFirst k gs → Below k w → Q k a)
+pub ends_file : {A : Type 0} {Q : Context → A → Type 0} {news : A → List Global} (gs : List Ty) (a : A) (w : World) → news a ≡ [] → ((k : Context) → AreFirst k gs → Below k w → Q k a)
     → FileGoes gs w (Ok (a, w)) news Q
 ends_file {A} {Q} {news} gs a w none holds = record {
   found = λ r is file. left-same gs w w news Q a r is (
@@ -136,7 +136,7 @@ ends_file {A} {Q} {news} gs a w none holds = record {
 }
 
 -- another form of what is found
-mapped : {A B : Type 0} {P : Context → A → Type 0} {Q : Context → B → Type 0} {news : A → List Global} {renewed : B → List Global} (gs : List Ty) (w : World) (o : Outcome (A × World)) (g : A → B)
+pub mapped : {A B : Type 0} {P : Context → A → Type 0} {Q : Context → B → Type 0} {news : A → List Global} {renewed : B → List Global} (gs : List Ty) (w : World) (o : Outcome (A × World)) (g : A → B)
     → ((a : A) → renewed (g a) ≡ news a) → ((k : Context) (a : A) → P k a → Q k (g a)) → FileGoes gs w o news P → FileGoes gs w (and_then o (λ a. pure (g a))) renewed Q
 mapped {Q = Q} {news = news} {renewed = renewed} gs w (Ok a) g same holds goes = record {
   found = λ r is file.
@@ -239,14 +239,14 @@ types-joined : (ns more : List Global) → types_of (ns ++ more) ≡ types_of ns
 types-joined [] more = refl
 types-joined (n ∷ ns) more = ap (λ ts. n.ty ∷ ts) (types-joined ns more)
 
-types-regroup : (gs : List Ty) (ns more : List Global) → (gs ++ types_of ns) ++ types_of more ≡ gs ++ types_of (ns ++ more)
+pub types-regroup : (gs : List Ty) (ns more : List Global) → (gs ++ types_of ns) ++ types_of more ≡ gs ++ types_of (ns ++ more)
 types-regroup gs ns more = append_assoc gs (types_of ns) (types_of more) ∙ ap (λ ts. gs ++ ts) (sym (types-joined ns more))
 
-numbered-joined : (n m : ℕ) (ns more : List Global) → m ≡ n + length ns → are_numbered n ns → are_numbered m more → are_numbered n (ns ++ more)
+pub numbered-joined : (n m : ℕ) (ns more : List Global) → m ≡ n + length ns → are_numbered n ns → are_numbered m more → are_numbered n (ns ++ more)
 numbered-joined n m [] more is first second = subst (λ l. are_numbered l more) (omega arith) second
 numbered-joined n m (g ∷ ns) more is first second = (first.0, numbered-joined (suc n) m ns more (omega arith) first.1 second)
 
-length-types : (gs : List Ty) (ns : List Global) → length (gs ++ types_of ns) ≡ length gs + length ns
+pub length-types : (gs : List Ty) (ns : List Global) → length (gs ++ types_of ns) ≡ length gs + length ns
 length-types [] [] = omega arith
 length-types [] (n ∷ ns) = let h : length ([] ++ types_of ns) ≡ 0 + length ns = length-types [] ns in omega arith
 length-types (g ∷ gs) ns = let h : length (gs ++ types_of ns) ≡ length gs + length ns = length-types gs ns in omega arith

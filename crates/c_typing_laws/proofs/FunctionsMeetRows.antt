@@ -37,7 +37,7 @@ use Rattle.c_typing_laws.specs.Worlds.{AreFirst, Below, HaveNoParameter, IsFile,
 use Rattle.c_typing_laws.specs.inner.Goes.{Goes, Sound, after, ends, finds, never, ruled, weaker}
 use Rattle.c_typing_laws.specs.inner.TypedTrees.{IsTypedDeclarator}
 use Rattle.c_typing_laws.proofs.DeclarationsMeetRows as locals
-use Rattle.c_typing_laws.proofs.DeclarationsMeetRows.{function_of-is, widening}
+use Rattle.c_typing_laws.proofs.DeclarationsMeetRows.{declared-ty, function_of-is, widening}
 use Rattle.c_typing_laws.proofs.FileDeclarationsMeetRows.{FileStays, are-first, of_naming, of_quiet, with_globals}
 use Rattle.c_typing_laws.proofs.StatementsMeetRows.{block-meets}
 use Rattle.c_typing_laws.proofs.TypedParts as parts
@@ -105,7 +105,7 @@ stays-same gs w v Q a r is stays =
     let same : (a, v) ≡ r = cc in
     subst (Stays gs w Q) same stays
 
-behind : {A B : Type 0} {P : Context → A → Type 0} {Q : Context → B → Type 0} (gs : List Ty) (w : World) (o : Outcome (A × World)) (f : A → Walk B)
+pub behind : {A B : Type 0} {P : Context → A → Type 0} {Q : Context → B → Type 0} (gs : List Ty) (w : World) (o : Outcome (A × World)) (f : A → Walk B)
     → FileStays gs w o P → ((a : A) (v : World) → IsFile gs v → FileStays gs v (f a v) (λ k b. P k a → Q k b)) → FileStays gs w (and_then o f) Q
 behind gs w (Ok a) f first rest = record {
   found = λ r is file.
@@ -211,14 +211,14 @@ module _ (stay : UnitsStay) (grow : TablesGrow) where
       weaken gs v _ (λ k g h any. subst (λ t. IsTypedBlock (inside k t g.1) g.2) (sym h.0) h.1) (body-file gs f d.layers b v))
 
   pub function-file : (gs : List Ty) (s : TypedSpec) (base : Ty) (d : Declarator) (b : Block) (w : World)
-      → FileStays gs w (typed_function s base d b w) (λ k f. DefinesFunction k f)
+      → FileStays gs w (typed_function s base d b w) (λ k f. DefinesFunction k f × (f.spec ≡ s))
   unfolding typed_function
   function-file gs s base d b w = behind {P = λ k x. IsTypedDeclarator k x.tree} gs w (typed_declarator d w) _
       (of_quiet gs w (typed_declarator d w) (λ k first. declarator-meets stay grow k gs first d w))
       (λ x v at. behind {P = λ k g. IsTypedBlock (inside k g.0 g.1) g.2} gs v (function_parts base x b v) _ (parts-file gs base x b v)
-      (λ g u there. of_quiet gs u _ (λ k first. ends k gs (λ below block hx. record {
+      (λ g u there. of_quiet gs u _ (λ k first. ends k gs (λ below block hx. (record {
         type = g.0;
-        ty = locals.declared-ty x.tree (ty.Function g.0);
+        ty = declared-ty x.tree (ty.Function g.0);
         bounds = parts.declared-made k x.tree (ty.Function g.0) hx;
         block = block;
-      }))))
+      }, refl)))))

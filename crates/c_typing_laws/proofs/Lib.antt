@@ -21,3 +21,4 @@ mod StatementsMeetRows
 mod RowsOfWalks
 mod FileDeclarationsMeetRows
 mod FunctionsMeetRows
+mod ItemsMeetRows

@@ -26,5 +26,5 @@ walks-meet stay grow = record {
       record { file = h.0; numbered = h.1; rows = λ k first below. (h.2 k first below).1 };
   definition = λ gs s base d b w new f is file.
       let h = (function-file stay grow gs s base d b w).found (f, new) is file in
-      record { file = h.0; rows = λ k first below. (h.1 k first below).1 };
+      record { file = h.0; rows = λ k first below. (h.1 k first below).1.0 };
 }
