@@ -257,14 +257,14 @@ module _ (stay : UnitsStay) (grow : TablesGrow) (k : Context) (gs : List Ty) (ah
   bind_type-goes x t w =
       renamed {a = t} w (record w { scopes = bound_in w.scopes x (means.TypeName t) })
       (record {
-          wide = record {
-            scopes = outer-bound w.scopes x (means.TypeName t);
-            clean = bound-clean w.scopes x (means.TypeName t) tt;
-            globals = refl;
-            defined = λ y h is. is;
-          };
-          locals = refl;
-        })
+        wide = record {
+          scopes = outer-bound w.scopes x (means.TypeName t);
+          clean = bound-clean w.scopes x (means.TypeName t) tt;
+          globals = refl;
+          defined = λ y h is. is;
+        };
+        locals = refl;
+      })
       (λ sound. bound-fits gs (local_types w) w.scopes x (means.TypeName t) sound tt) (λ b. (below-scopes grow k gs w (bound_in w.scopes x (means.TypeName t)) b, tt))
 
   bind_function-by : (x : Name) (bound : Bool) (w : World) → Goes k gs naming w ((if bound then pure tt else bind x means.Function) w) (λ u. Unit {0})

@@ -1,5 +1,5 @@
 -- The walk of a function's definition finds a block that meets its rows, in a context of the function's own variables.
-use Rattle.std.proofs.Common.{◌≡◌, ◌∙◌, ℕ, suc, Bool, true, false, ◌&&◌, ◌||◌, if◌then◌else◌, List, [], ◌∷◌, map, Option, Some, None, slice_get, Ok, Err, refl, ap, sym, subst}
+use Rattle.std.proofs.Common.{◌≡◌, ◌∙◌, ℕ, Bool, true, false, ◌&&◌, if◌then◌else◌, List, [], ◌∷◌, map, Option, Some, None, slice_get, Ok, Err, refl, ap, sym, subst}
 use Rattle.std.specs.Str.{bytes_eq}
 use Rattle.c_layers.specs.declared.layer.Layer.{Layer}
 use Rattle.c_layers.specs.declared.layer.Parameter.{Parameter}
@@ -15,26 +15,23 @@ use Rattle.c_tree.specs.declared.statement.Block.{Block}
 use Rattle.c_typed.specs.declared.expression.TypedSpec.{TypedSpec}
 use Rattle.c_typed.specs.declared.statement.TypedBlock.{TypedBlock}
 use Rattle.c_typed.specs.declared.unit.Local.{Local}
-use Rattle.c_typed.specs.declared.unit.TypedFn.{TypedFn}
 use Rattle.c_scope.specs.declared.rule.Rule.{Rule}
 use Rattle.c_scope.specs.declared.rule.Rule.TheVariants as broken
-use Rattle.c_scope.specs.declared.scopes.Binding.{Binding}
 use Rattle.c_scope.specs.declared.world.KnownFunction.{KnownFunction}
 use Rattle.c_scope.specs.declared.world.World.{World}
 use Rattle.c_scope.specs.BuiltIns.{Name}
-use Rattle.c_scope.specs.Definitions.{bind_parameters, declare_function, declare_variable, mark_defined, marked, may_be_defined, own_parameter, own_parameters}
-use Rattle.c_scope.specs.Scopes.{enter, known_function, leave, outer, with_function, within}
+use Rattle.c_scope.specs.Definitions.{bind_parameters, declare_function, mark_defined, marked, may_be_defined, own_parameter, own_parameters}
+use Rattle.c_scope.specs.Scopes.{enter, known_function, leave, outer, with_function}
 use Rattle.c_scope.specs.Walk.{Outcome, Walk, ◌>>=◌, ◌>>◌, and_then, found, pure}
 use Rattle.c_expr_typing.specs.declared.layered.LayeredDeclarator.{LayeredDeclarator}
-use Rattle.c_expr_typing.specs.Trees.{declared, typed_declarator}
+use Rattle.c_expr_typing.specs.Trees.{typed_declarator}
 use Rattle.c_typing.specs.Functions.{bind_own, bind_own_by, define_function, defined_type, function_body, function_parts, is_definition, shaped_function, take_locals, typed_function}
 use Rattle.c_typing.specs.Statements.{typed_block}
 use Rattle.c_typed_rows.specs.Contexts.{Context, defined_as}
-use Rattle.c_typed_rows.specs.Expressions.{IsTypedDeclared}
 use Rattle.c_typed_rows.specs.Statements.{IsTypedBlock}
 use Rattle.c_typing_laws.specs.Theorems.{DefinesFunction}
 use Rattle.c_typing_laws.specs.Worlds.{AreFirst, Below, HaveNoParameter, IsFile, LocalStands, ScopesFit, local_types}
-use Rattle.c_typing_laws.specs.inner.Goes.{Goes, Sound, after, ends, finds, never, ruled, weaker}
+use Rattle.c_typing_laws.specs.inner.Goes.{Goes, after, ends, finds, never, ruled, weaker}
 use Rattle.c_typing_laws.specs.inner.TypedTrees.{IsTypedDeclarator}
 use Rattle.c_typing_laws.proofs.DeclarationsMeetRows as locals
 use Rattle.c_typing_laws.proofs.DeclarationsMeetRows.{declared-ty, function_of-is, widening}
@@ -42,7 +39,7 @@ use Rattle.c_typing_laws.proofs.FileDeclarationsMeetRows.{FileStays, are-first, 
 use Rattle.c_typing_laws.proofs.StatementsMeetRows.{block-meets}
 use Rattle.c_typing_laws.proofs.TypedParts as parts
 use Rattle.c_typing_laws.proofs.WalksMeetRows.{declarator-meets}
-use Rattle.c_typing_laws.proofs.WorldSteps.{below-scopes, quiet}
+use Rattle.c_typing_laws.proofs.WorldSteps.{quiet}
 
 -- ---- the mark that a function is defined
 
@@ -216,9 +213,12 @@ module _ (stay : UnitsStay) (grow : TablesGrow) where
   function-file gs s base d b w = behind {P = λ k x. IsTypedDeclarator k x.tree} gs w (typed_declarator d w) _
       (of_quiet gs w (typed_declarator d w) (λ k first. declarator-meets stay grow k gs first d w))
       (λ x v at. behind {P = λ k g. IsTypedBlock (inside k g.0 g.1) g.2} gs v (function_parts base x b v) _ (parts-file gs base x b v)
-      (λ g u there. of_quiet gs u _ (λ k first. ends k gs (λ below block hx. (record {
-        type = g.0;
-        ty = declared-ty x.tree (ty.Function g.0);
-        bounds = parts.declared-made k x.tree (ty.Function g.0) hx;
-        block = block;
-      }, refl)))))
+      (λ g u there. of_quiet gs u _ (λ k first. ends k gs (λ below block hx. (
+        record {
+          type = g.0;
+          ty = declared-ty x.tree (ty.Function g.0);
+          bounds = parts.declared-made k x.tree (ty.Function g.0) hx;
+          block = block;
+        },
+        refl,
+      )))))

@@ -1,5 +1,5 @@
 -- The walk of items finds what meets its rows, and so does that of a whole source.
-use Rattle.std.proofs.Common.{◌≡◌, ◌∙◌, ℕ, suc, ◌+◌, Bool, true, false, if◌then◌else◌, List, [], ◌∷◌, ◌++◌, length, map, Option, Some, None, Ok, Err, refl, ap, sym, subst}
+use Rattle.std.proofs.Common.{◌≡◌, ◌∙◌, ℕ, suc, Bool, true, false, if◌then◌else◌, List, [], ◌∷◌, ◌++◌, length, map, Option, Some, None, Ok, Err, refl, ap, sym, subst}
 use Rattle.std.proofs.lemmas.List.{append-nil}
 use Rattle.std.specs.List.{AllByRecursion}
 use Rattle.c_layers.specs.declared.layer.Shape.{Shape}
@@ -12,7 +12,6 @@ use Rattle.c_tree.specs.declared.statement.Block.{Block}
 use Rattle.c_tree.specs.declared.statement.Item.{Item}
 use Rattle.c_tree.specs.declared.statement.Item.TheVariants as raw_item
 use Rattle.c_tree.specs.declared.statement.Unit.{Unit as Source}
-use Rattle.c_typed.specs.declared.expression.Declared.{Declared}
 use Rattle.c_typed.specs.declared.unit.Typed.{Typed}
 use Rattle.c_typed.specs.declared.unit.TypedItem.{TypedItem}
 use Rattle.c_typed.specs.declared.unit.TypedItem.TheVariants as item
@@ -23,7 +22,7 @@ use Rattle.c_scope.specs.BuiltIns.{Name}
 use Rattle.c_scope.specs.Declarations.{is_free}
 use Rattle.c_scope.specs.Definitions.{undefined_use}
 use Rattle.c_scope.specs.Scopes.{empty}
-use Rattle.c_scope.specs.Walk.{Outcome, Walk, and_then, each}
+use Rattle.c_scope.specs.Walk.{Outcome, Walk, each}
 use Rattle.c_expr_typing.specs.declared.layered.LayeredDeclarator.{LayeredDeclarator}
 use Rattle.c_expr_typing.specs.Trees.{typed_declarator, typed_spec}
 use Rattle.c_typing.specs.Declarations.{declare_type, named_type, shaped_name, typed_decl, typed_type}
@@ -127,13 +126,14 @@ module _ (stay : UnitsStay) (grow : TablesGrow) where
       let g = rest b refl h.0 in
       let same : types_of (item_globals a.0 ++ globals b.0) ≡ types_of (globals (a.0 ∷ b.0)) = ap types_of (sym (by_first a.0 b.0)) in
       let types : (gs ++ types_of (item_globals a.0)) ++ types_of (globals b.0) ≡ gs ++ types_of (globals (a.0 ∷ b.0)) = types-regroup gs (item_globals a.0) (globals b.0) ∙ ap (λ ts. gs ++ ts) same in
-      left-same gs w b.1 (a.0 ∷ b.0) r is
-      (subst (λ hs. IsFile hs b.1) types g.0,
-       subst (are_numbered (length gs)) (sym (by_first a.0 b.0)) (numbered-joined (length gs) _ (item_globals a.0) (globals b.0) (file.length-types gs (item_globals a.0)) h.1 g.1),
-       λ k ahead below.
-         let all = subst (AreFirst k) (sym types) ahead in
-         let m = g.2 k all below in
-         let n = h.2 k (first-behind k (gs ++ types_of (item_globals a.0)) (types_of (globals b.0)) all) m.0 in (n.0, (n.1, m.1)))
+      left-same gs w b.1 (a.0 ∷ b.0) r is (
+        subst (λ hs. IsFile hs b.1) types g.0,
+        subst (are_numbered (length gs)) (sym (by_first a.0 b.0)) (numbered-joined (length gs) _ (item_globals a.0) (globals b.0) (file.length-types gs (item_globals a.0)) h.1 g.1),
+        λ k ahead below.
+            let all = subst (AreFirst k) (sym types) ahead in
+            let m = g.2 k all below in
+            let n = h.2 k (first-behind k (gs ++ types_of (item_globals a.0)) (types_of (globals b.0)) all) m.0 in (n.0, (n.1, m.1)),
+      )
   joined gs w a (Err e) h rest r is = cc
 
   at_number : (gs : List Ty) (w : World) (n : ℕ) → IsFile gs w → IsFile gs (record w { item = n })
