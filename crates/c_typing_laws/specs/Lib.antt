@@ -1,0 +1,3 @@
+pub mod Worlds
+pub mod Theorems
+pub mod inner

@@ -1,0 +1,132 @@
+-- What holds of the typed forms of sources, and of what each walk finds.
+use Rattle.std.specs.Prelude.{◌≡◌, Bool, true, false, List, ◌++◌, length, map, Some, Ok}
+use Rattle.std.specs.List.{AllByRecursion}
+use Rattle.c_tree.specs.declared.expression.Declarator.{Declarator}
+use Rattle.c_tree.specs.declared.expression.Expr.{Expr}
+use Rattle.c_tree.specs.declared.statement.Block.{Block}
+use Rattle.c_tree.specs.declared.statement.Decl.{Decl}
+use Rattle.c_tree.specs.declared.statement.Init.{Init}
+use Rattle.c_tree.specs.declared.statement.Unit.{Unit as Source}
+use Rattle.c_types.specs.declared.ty.FnTy.{FnTy, out-FnTy}
+use Rattle.c_types.specs.declared.ty.Ty.{Ty}
+use Rattle.c_types.specs.declared.ty.Ty.TheVariants as ty
+use Rattle.c_typed.specs.declared.expression.Declared.{out-Declared}
+use Rattle.c_typed.specs.declared.expression.TypedExpr.{TypedExpr}
+use Rattle.c_typed.specs.declared.expression.TypedSpec.{TypedSpec}
+use Rattle.c_typed.specs.declared.statement.TypedBlock.{TypedBlock}
+use Rattle.c_typed.specs.declared.statement.TypedDecl.{TypedDecl}
+use Rattle.c_typed.specs.declared.statement.TypedInit.{TypedInit}
+use Rattle.c_typed.specs.declared.unit.Typed.{Typed}
+use Rattle.c_typed.specs.declared.unit.TypedFn.{TypedFn}
+use Rattle.c_typed.specs.declared.unit.TypedItem.{TypedItem}
+use Rattle.c_typed.specs.declared.unit.TypedItem.TheVariants as item
+use Rattle.c_typed.specs.Erased.{erased}
+use Rattle.c_scope.specs.declared.world.World.{World}
+use Rattle.c_rules.specs.declared.place.Place.TheVariants.{Value}
+use Rattle.c_expr_typing.specs.Trees.{typed_expr}
+use Rattle.c_typing.specs.Declarations.{typed_decl}
+use Rattle.c_typing.specs.Functions.{typed_function}
+use Rattle.c_typing.specs.Initialisers.{typed_init}
+use Rattle.c_typing.specs.Statements.{typed_block}
+use Rattle.c_typing.specs.Theorems.{HasForm}
+use Rattle.c_typed_rows.specs.Contexts.{Context}
+use Rattle.c_typed_rows.specs.Expressions.{IsTypedDeclared, IsTypedSpec, IsTypedValue}
+use Rattle.c_typed_rows.specs.Initialisers.{IsTypedInit}
+use Rattle.c_typed_rows.specs.Sources.{are_numbered, declared_globals, globals}
+use Rattle.c_typed_rows.specs.Statements.{IsTypedBlock, IsTypedDecl}
+use Rattle.c_typing_laws.specs.Worlds.{AreFirst, Below, HaveNoParameter, IsFile, ScopesFit, local_types}
+
+-- ---- erasing
+
+-- the typed form of a source, without its types, is that source
+abbrev pub TypedSourcesKeepTheirTrees : Type 0
+TypedSourcesKeepTheirTrees = (s : Source) (t : Typed) → HasForm s t → erased t ≡ s
+
+-- ---- rows
+
+-- where a walk begins and ends: global variables of these types are the context's first, names in scope stand for variables
+-- that are there, none for a parameter of a declarator, and the context has all that is known behind the walk
+pub record Between (k : Context) (before : List Ty) (w new : World) : Type 0 where
+  pub first : AreFirst k before
+  pub scopes : ScopesFit before (local_types w) w.scopes
+  pub no_parameter : HaveNoParameter w.scopes
+  pub known : Below k new
+
+-- what a declaration that is an item leaves, behind global variables of these types
+pub record DeclaresGlobals (before : List Ty) (x : TypedDecl) (new : World) : Type 0 where
+  pub file : IsFile (before ++ map (λ g. g.ty) (declared_globals x.declarators)) new
+  pub numbered : are_numbered (length before) (declared_globals x.declarators)
+  pub rows :
+      (k : Context)
+      → AreFirst k (before ++ map (λ g. g.ty) (declared_globals x.declarators))
+      → Below k new
+      → IsTypedDecl k x
+
+-- a definition of a function, whose block meets its rows in a context of the function's own variables and result
+pub record DefinesFunction (k : Context) (f : TypedFn) : Type 0 where
+  pub type : FnTy
+  pub ty : (out-Declared f.declared).ty ≡ ty.Function type
+  pub bounds : IsTypedDeclared k f.declared
+  pub block : IsTypedBlock (record k { locals = f.locals; result = (out-FnTy type).result }) f.block
+
+-- what a definition leaves, behind global variables of these types
+pub record LeavesFile (before : List Ty) (f : TypedFn) (new : World) : Type 0 where
+  pub file : IsFile before new
+  pub rows : (k : Context) → AreFirst k before → Below k new → DefinesFunction k f
+
+-- an item whose levels meet their rows
+abbrev pub ItemMeetsRow : Context → TypedItem → Type 0
+ItemMeetsRow k (item.Decl d) = IsTypedDecl k d
+ItemMeetsRow k (item.Typedef s ds) = IsTypedSpec k s × AllByRecursion (IsTypedDeclared k) ds
+ItemMeetsRow k (item.Function f) = IsTypedSpec k f.spec × DefinesFunction k f
+
+-- a whole source whose levels meet their rows, in each context that has what is known behind its last item
+pub record SourceMeetsRows (t : Typed) : Type 0 where
+  pub known : World
+  pub structs : known.structs ≡ t.structs
+  pub strings : known.strings ≡ t.strings
+  pub numbered : are_numbered 0 (globals t.items)
+  pub rows :
+      (k : Context)
+      → AreFirst k (map (λ g. g.ty) (globals t.items))
+      → Below k known
+      → AllByRecursion (ItemMeetsRow k) t.items
+
+-- the typed form of a source is such a one
+abbrev pub TypedSourcesMeetRows : Type 0
+TypedSourcesMeetRows = (s : Source) (t : Typed) → HasForm s t → SourceMeetsRows t
+
+-- what the walk of a tree finds meets the rows of each of its levels, in each context that has what is known
+pub record WalksMeetRows : Type 0 where
+  pub expression :
+      (k : Context) (before : List Ty) (e : Expr) (w new : World) (x : TypedExpr)
+      → typed_expr e Value w ≡ Ok (x, new)
+      → Between k before w new
+      → IsTypedValue k x
+  pub initialiser :
+      (k : Context) (before : List Ty) (is_global : Bool) (i : Init) (t : Ty) (w new : World) (x : TypedInit)
+      → typed_init is_global i (Some t) w ≡ Ok (x, new)
+      → Between k before w new
+      → IsTypedInit k t x
+  -- in a function
+  pub declaration :
+      (k : Context) (before : List Ty) (d : Decl) (w new : World) (x : TypedDecl)
+      → typed_decl false d w ≡ Ok (x, new)
+      → Between k before w new
+      → IsTypedDecl k x
+  pub block :
+      (k : Context) (before : List Ty) (b : Block) (in_loop : Bool) (w new : World) (x : TypedBlock)
+      → typed_block k.result b in_loop w ≡ Ok (x, new)
+      → Between k before w new
+      → IsTypedBlock k x
+  -- outside functions
+  pub global_declaration :
+      (before : List Ty) (d : Decl) (w new : World) (x : TypedDecl)
+      → typed_decl true d w ≡ Ok (x, new)
+      → IsFile before w
+      → DeclaresGlobals before x new
+  pub definition :
+      (before : List Ty) (s : TypedSpec) (base : Ty) (d : Declarator) (b : Block) (w new : World) (f : TypedFn)
+      → typed_function s base d b w ≡ Ok (f, new)
+      → IsFile before w
+      → LeavesFile before f new

@@ -1,0 +1,6 @@
+//! The laws of typed forms: what `c_typing`'s `check` gives of every source, in words that know no scopes and no order.
+#![tactic(auto)]
+
+mod theorems;
+
+pub use theorems::{typed_sources_keep_their_trees, typed_sources_meet_rows, walks_meet_rows};

@@ -1,0 +1,27 @@
+//! What holds of the typed form of every source, and of what each walk finds.
+
+ghost use Rattle.c_typing_laws.specs.Theorems.{TypedSourcesKeepTheirTrees, TypedSourcesMeetRows, WalksMeetRows};
+
+use c_types::{tables_grow, units_stay};
+
+/// The typed form of a source, without its types, is that source.
+pub fn typed_sources_keep_their_trees()
+    ensures { TypedSourcesKeepTheirTrees }
+{}
+
+/// What the walk of an expression, an initialiser, a declaration of a function's body or a block finds meets the row of each
+/// of its levels, in each context that has what is known behind the walk.
+pub fn walks_meet_rows()
+    ensures { WalksMeetRows }
+{
+    units_stay();
+    tables_grow();
+}
+
+/// Each level of the typed form of a source meets its row, in each context that has what is known behind the last item.
+pub fn typed_sources_meet_rows()
+    ensures { TypedSourcesMeetRows }
+{
+    units_stay();
+    tables_grow();
+}
