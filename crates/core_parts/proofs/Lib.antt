@@ -1,0 +1,3 @@
+mod Windows
+mod PiecesCompose
+mod PartsCompose
