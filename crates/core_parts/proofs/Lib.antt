@@ -1,3 +1,5 @@
 mod Windows
 mod PiecesCompose
 mod PartsCompose
+mod Tails
+mod Extensions

@@ -135,7 +135,7 @@ module _ (c : List Outline) (base : ℕ) (w : List Outline) (start : ℕ) (v : I
       let f : base ≤ h.before = h.there.there.from in
       record { before = h.before; next = h.next; there = role_in h.before r h.there; unreached = unreached_in u (omega arith) inside h.unreached }
 
-  start_in : (k t f : ℕ) → IsStart c base k t f → IsStart w start k t f
+  pub start_in : (k t f : ℕ) → IsStart c base k t f → IsStart w start k t f
   start_in k t f h =
       let from : base ≤ k = h.number.there.from in
       let b : k + 2 < end_of c base = role_within (k + 2) (role.StartFn t f) h.function in
@@ -147,7 +147,7 @@ module _ (c : List Outline) (base : ℕ) (w : List Outline) (start : ℕ) (v : I
         function_unreached = unreached_in (k + 2) (omega arith) b h.function_unreached;
       }
 
-  in_start_in : (u n : ℕ) → InStart c base u n → InStart w start u n
+  pub in_start_in : (u n : ℕ) → InStart c base u n → InStart w start u n
   in_start_in u n h = record { first = h.first; thread = h.thread; function = h.function; is = h.is; run = start_in h.first h.thread h.function h.run }
 
   chained_in : (u r : ℕ) → u < end_of c base → Chained c base u r → Chained w start u r

@@ -1,0 +1,36 @@
+use Rattle.core_parts.proofs.Extensions.{gives, uses}
+use Rattle.core_parts.proofs.PartsCompose as parts
+use Rattle.core_parts.proofs.PiecesCompose.{pieces, sections, weaker}
+use Rattle.core_parts.proofs.Windows.{in_back, in_front, split}
+use Rattle.core_parts.proofs.theorems.parts_compose.Goals as goal
+
+pub returns : goal.returns
+returns c = record {
+  composition = record {
+    split = split;
+    in_front = in_front;
+    in_back = in_back;
+    none = parts.none;
+    then = parts.then;
+    fewer = parts.fewer;
+  };
+  extension = record {
+    gives = λ c start a b live i h free quiet defines known. gives c start a b live i h free quiet known defines;
+    uses = λ c start a b live i h free quiet defines known. uses c start a b live i h free quiet known defines;
+    loads = ?;
+    stores = ?;
+    locks = ?;
+    starts = ?;
+    calls = ?;
+  };
+  pieces = record {
+    branch = ?;
+    jump = ?;
+    returns = ?;
+    leaves = ?;
+    pieces = pieces;
+    sections = sections;
+    weaker = weaker;
+  };
+  bodies = ?;
+}
