@@ -4,7 +4,6 @@ use Rattle.core_ir.specs.declared.role.Role.{Role}
 use Rattle.core_ir.specs.declared.role.Role.TheVariants as role
 use Rattle.core_ir.specs.Outline.{Outline}
 use Rattle.core_ir.specs.Flow.{Chain, HasRole, IsAmong, Jumps, Serves, Stands}
-use Rattle.core_parts.specs.Outlines.{acting, loading, locking, storing, touching}
 use Rattle.core_parts.specs.Pieces.{IsLive, IsOwned, IsPart, end_of}
 use Rattle.core_parts.specs.Places.{Behind, FrameFits, IsLinked, NamesUsed, RoleFits, Served}
 use Rattle.core_parts.specs.Theorems.{AreAmong, IsFree}
@@ -35,7 +34,7 @@ free_named used (role.Load p) f = absurd f
 free_named used (role.StartFn t g) f = absurd f
 free_named used _ f = tt
 
-free_linked : (frame : Bool) (c : List Outline) (start u : ℕ) (i : Outline) → IsFree i.role → ((r : ℕ) → IsAmong i.used r → Served c start u r) → IsLinked frame c start u i
+pub free_linked : (frame : Bool) (c : List Outline) (start u : ℕ) (i : Outline) → IsFree i.role → ((r : ℕ) → IsAmong i.used r → Served c start u r) → IsLinked frame c start u i
 free_linked frame c start u i free served = record {
   served = served;
   fits = free_fits c start u i.role free;

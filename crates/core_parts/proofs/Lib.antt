@@ -3,3 +3,5 @@ mod PiecesCompose
 mod PartsCompose
 mod Tails
 mod Extensions
+mod Accesses
+mod Starts

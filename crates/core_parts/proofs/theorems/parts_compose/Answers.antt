@@ -1,6 +1,8 @@
+use Rattle.core_parts.proofs.Accesses.{loads, locks, stores}
 use Rattle.core_parts.proofs.Extensions.{gives, uses}
 use Rattle.core_parts.proofs.PartsCompose as parts
 use Rattle.core_parts.proofs.PiecesCompose.{pieces, sections, weaker}
+use Rattle.core_parts.proofs.Starts.{starts}
 use Rattle.core_parts.proofs.Windows.{in_back, in_front, split}
 use Rattle.core_parts.proofs.theorems.parts_compose.Goals as goal
 
@@ -17,10 +19,10 @@ returns c = record {
   extension = record {
     gives = λ c start a b live i h free quiet defines known. gives c start a b live i h free quiet known defines;
     uses = λ c start a b live i h free quiet defines known. uses c start a b live i h free quiet known defines;
-    loads = ?;
-    stores = ?;
-    locks = ?;
-    starts = ?;
+    loads = loads;
+    stores = stores;
+    locks = locks;
+    starts = starts;
     calls = ?;
   };
   pieces = record {
