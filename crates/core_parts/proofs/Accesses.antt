@@ -1,10 +1,9 @@
 -- A part, and an access behind the test of its address.
-use Rattle.std.proofs.Common.{◌≡◌, ◌≢◌, ◌⊎◌, inl, inr, ℕ, suc, ◌+◌, ◌<◌, ◌≤◌, Bool, true, false, List, [], ◌∷◌, ◌++◌, length, Option, Some, None, refl, ap, sym, subst, ◌∙◌, ⊎_elim, arith}
-use Rattle.core_ir.specs.declared.role.Role.{Role}
+use Rattle.std.proofs.Common.{◌≡◌, ◌⊎◌, inl, inr, ℕ, ◌+◌, Bool, List, [], ◌∷◌, ◌++◌, None, refl, subst, ⊎_elim, arith}
 use Rattle.core_ir.specs.declared.role.Role.TheVariants as role
 use Rattle.core_ir.specs.Outline.{Outline}
-use Rattle.core_ir.specs.Flow.{HasRole, IsAmong, Stands}
-use Rattle.core_parts.specs.Outlines.{acting, loading, locking, storing, touching}
+use Rattle.core_ir.specs.Flow.{IsAmong, Stands}
+use Rattle.core_parts.specs.Outlines.{loading, locking, storing, touching}
 use Rattle.core_parts.specs.Pieces.{IsLive, IsOwned, IsPart, end_of}
 use Rattle.core_parts.specs.Places.{Behind, FrameFits, IsLinked, NamesUsed, RoleFits}
 use Rattle.core_parts.specs.Theorems.{AreAmong}
@@ -34,7 +33,7 @@ module _ (c : List Outline) (start a b e : ℕ) (live : List ℕ) (p : ℕ) (x :
   linked : (frame : Bool) (u : ℕ) (i : Outline) → Stands (touching p ∷ x ∷ []) (end_of c start) u i → IsLinked frame (c ++ touching p ∷ x ∷ []) start u i
   linked frame = all_two (λ u i. IsLinked frame (c ++ touching p ∷ x ∷ []) start u i) (end_of c start) (touching p) x
       (free_linked frame (c ++ touching p ∷ x ∷ []) start (end_of c start) (touching p) tt
-        (λ r uses. live_serves c (touching p ∷ x ∷ []) start a b e live h silent owned r (end_of c start) (among_one live p is_p r uses) (omega arith) (omega arith)))
+      (λ r uses. live_serves c (touching p ∷ x ∷ []) start a b e live h silent owned r (end_of c start) (among_one live p is_p r uses) (omega arith) (omega arith)))
       (record {
         served = λ r uses. live_serves c (touching p ∷ x ∷ []) start a b e live h silent owned r (end_of c start + 1) (known r uses) (omega arith) (omega arith);
         fits = fits (c ++ touching p ∷ x ∷ []) (end_of c start + 1) (record {
@@ -61,9 +60,9 @@ loads c start a b live p h is_p =
     access c start a b (b + 1) live p (loading b p) h is_p refl (owned_one (loading b p) (end_of c start + 1) b refl) (among_one live p is_p) (inl refl)
     (λ w u behind. behind) (λ frame w u. tt) (λ t r is. cc) (b ∷ live)
     (λ r is. ⊎_elim
-      (λ (e : b ≡ r). inr (subst (IsLive (touching p ∷ loading b p ∷ []) (end_of c start)) e (last_live (touching p ∷ []) (loading b p) (end_of c start) b (no_jump (touching p ∷ loading b p ∷ []) (end_of c start) silent) refl)))
-      (λ (x : IsAmong live r). inl x)
-      is)
+    (λ (e : b ≡ r). inr (subst (IsLive (touching p ∷ loading b p ∷ []) (end_of c start)) e (last_live (touching p ∷ []) (loading b p) (end_of c start) b (no_jump (touching p ∷ loading b p ∷ []) (end_of c start) silent) refl)))
+    (λ (x : IsAmong live r). inl x)
+    is)
 
 pub stores : (c : List Outline) (start a b : ℕ) (live : List ℕ) (p x : ℕ) → IsPart c start a b live → IsAmong live p → IsAmong live x → IsPart (c ++ touching p ∷ storing p x ∷ []) start a b live
 stores c start a b live p x h is_p is_x =

@@ -1,16 +1,13 @@
 -- A part, and instructions behind it that use what is live.
-use Rattle.std.proofs.Common.{◌≡◌, ◌≢◌, ◌⊎◌, inl, inr, ℕ, suc, ◌+◌, ◌<◌, ◌≤◌, Bool, true, false, List, [], ◌∷◌, ◌++◌, length, Option, Some, None, refl, ap, sym, subst, ◌∙◌, ⊎_elim, arith}
+use Rattle.std.proofs.Common.{◌≡◌, inl, inr, ℕ, ◌+◌, Bool, List, [], ◌∷◌, ◌++◌, Some, None, subst, ⊎_elim, arith}
 use Rattle.core_ir.specs.declared.role.Role.{Role}
 use Rattle.core_ir.specs.declared.role.Role.TheVariants as role
 use Rattle.core_ir.specs.Outline.{Outline}
-use Rattle.core_ir.specs.Flow.{Chain, HasRole, IsAmong, Jumps, Serves, Stands}
-use Rattle.core_parts.specs.Pieces.{IsLive, IsOwned, IsPart, end_of}
-use Rattle.core_parts.specs.Places.{Behind, FrameFits, IsLinked, NamesUsed, RoleFits, Served}
+use Rattle.core_ir.specs.Flow.{HasRole, IsAmong}
+use Rattle.core_parts.specs.Pieces.{IsLive, IsPart, end_of}
+use Rattle.core_parts.specs.Places.{FrameFits, IsLinked, NamesUsed, RoleFits, Served}
 use Rattle.core_parts.specs.Theorems.{AreAmong, IsFree}
-use Rattle.core_parts.proofs.PartsCompose.{same_register}
-use Rattle.core_parts.proofs.PiecesCompose.{owned_then}
-use Rattle.core_parts.proofs.Tails.{all_one, all_two, first_there, last_live, live_serves, no_jump, owned_none, owned_one, second_there, tail_part, unreached}
-use Rattle.core_parts.proofs.Windows.{in_back}
+use Rattle.core_parts.proofs.Tails.{all_one, last_live, live_serves, no_jump, owned_none, owned_one, tail_part}
 
 -- ---- free instructions
 
@@ -52,11 +49,11 @@ module _ (c : List Outline) (start a b : ℕ) (live : List ℕ) (i : Outline) (h
       let owned = owned_one i (end_of c start) b is_b in
       tail_part c (i ∷ []) start a b (b + 1) live h silent owned (b ∷ live)
       (λ frame. all_one (λ u j. IsLinked frame (c ++ i ∷ []) start u j) (end_of c start) i
-        (free_linked frame (c ++ i ∷ []) start (end_of c start) i free (λ r uses. live_serves c (i ∷ []) start a b (b + 1) live h silent owned r (end_of c start) (known r uses) (omega arith) (omega arith))))
+      (free_linked frame (c ++ i ∷ []) start (end_of c start) i free (λ r uses. live_serves c (i ∷ []) start a b (b + 1) live h silent owned r (end_of c start) (known r uses) (omega arith) (omega arith))))
       (λ r is. ⊎_elim
-        (λ (e : b ≡ r). inr (subst (IsLive (i ∷ []) (end_of c start)) e (last_live [] i (end_of c start) b (no_jump (i ∷ []) (end_of c start) silent) is_b)))
-        (λ (x : IsAmong live r). inl x)
-        is)
+      (λ (e : b ≡ r). inr (subst (IsLive (i ∷ []) (end_of c start)) e (last_live [] i (end_of c start) b (no_jump (i ∷ []) (end_of c start) silent) is_b)))
+      (λ (x : IsAmong live r). inl x)
+      is)
       (λ r k t is has. free_starts_nothing c i (end_of c start) k t r free has)
 
   pub uses : i.defined ≡ None → IsPart (c ++ i ∷ []) start a b live
@@ -65,6 +62,6 @@ module _ (c : List Outline) (start a b : ℕ) (live : List ℕ) (i : Outline) (h
       let owned = owned_none i (end_of c start) b none in
       tail_part c (i ∷ []) start a b b live h silent owned live
       (λ frame. all_one (λ u j. IsLinked frame (c ++ i ∷ []) start u j) (end_of c start) i
-        (free_linked frame (c ++ i ∷ []) start (end_of c start) i free (λ r uses. live_serves c (i ∷ []) start a b b live h silent owned r (end_of c start) (known r uses) (omega arith) (omega arith))))
+      (free_linked frame (c ++ i ∷ []) start (end_of c start) i free (λ r uses. live_serves c (i ∷ []) start a b b live h silent owned r (end_of c start) (known r uses) (omega arith) (omega arith))))
       (λ r is. inl is)
       (λ r k t is has. free_starts_nothing c i (end_of c start) k t r free has)

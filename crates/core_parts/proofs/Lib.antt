@@ -5,3 +5,6 @@ mod Tails
 mod Extensions
 mod Accesses
 mod Starts
+mod Calls
+mod Leaves
+mod Bodies

@@ -1,12 +1,12 @@
 -- Parts of a full expression, one behind another.
-use Rattle.std.proofs.Common.{◌≡◌, ◌≢◌, ◌⊎◌, inl, inr, ℕ, ◌+◌, ◌<◌, ◌≤◌, Bool, true, List, [], ◌∷◌, ◌++◌, length, Option, Some, None, refl, ap, sym, subst, ◌∙◌, ⊎_elim, arith}
+use Rattle.std.proofs.Common.{◌≡◌, ◌≢◌, ◌⊎◌, inl, inr, ℕ, ◌+◌, ◌<◌, ◌≤◌, Bool, true, List, [], ◌∷◌, ◌++◌, Some, sym, subst, ⊎_elim, arith}
 use Rattle.core_ir.specs.declared.role.Role.TheVariants as role
 use Rattle.core_ir.specs.Outline.{Outline}
 use Rattle.core_ir.specs.Flow.{HasRole, IsAmong, Jumps, Serves, Stands}
 use Rattle.core_parts.specs.Pieces.{IsInside, IsLive, IsOwned, IsPart, IsPiece, IsSection, end_of}
-use Rattle.core_parts.specs.Places.{IsLinked, NamesUsed, Served}
+use Rattle.core_parts.specs.Places.{NamesUsed}
 use Rattle.core_parts.proofs.PiecesCompose.{sections}
-use Rattle.core_parts.proofs.Windows.{back_window, end_append, in_front, jumps_split, one, serves_in, split, within}
+use Rattle.core_parts.proofs.Windows.{back_window, end_append, in_front, jumps_split, serves_in, split, within}
 
 pub same_register : (a b : ℕ) → Some a ≡ Some b → a ≡ b
 same_register a b e = cc
@@ -37,9 +37,9 @@ live_front c d start r inside other h =
       unbroken = λ q l j sl lu. ⊎_elim
           (λ (x : Jumps c start q l). let b = h.unbroken q l x sl (inside q l x).1 in let high : q < end_of c start = b.1 in (b.0, omega arith))
           (λ (x : Jumps d (end_of c start) q l).
-              let from : end_of c start ≤ q = x.there.from in
-              let to : q < end_of d (end_of c start) = within d (end_of c start) q x.by x.there in
-              (omega arith, omega arith))
+          let from : end_of c start ≤ q = x.there.from in
+          let to : q < end_of d (end_of c start) = within d (end_of c start) q x.by x.there in
+          (omega arith, omega arith))
           (jumps_split c d start q l j);
     }
 
@@ -83,25 +83,25 @@ then c d start a b e live more hc hd =
       is_section = sections c d start a b e [] [] [] hc.is_section hd.is_section tt tt tt tt;
       lives = λ r is. ⊎_elim
           (λ (x : IsAmong live r).
-              let high : r < b = (live_owned c start a b r hc.is_section.owned (hc.lives r x)).1 in
-              live_front c d start r inside (λ k i here defines. let low : b ≤ r = (hd.is_section.owned.owned k r i here defines).0 in let z : ⊥ = omega arith in z) (hc.lives r x))
+          let high : r < b = (live_owned c start a b r hc.is_section.owned (hc.lives r x)).1 in
+          live_front c d start r inside (λ k i here defines. let low : b ≤ r = (hd.is_section.owned.owned k r i here defines).0 in let z : ⊥ = omega arith in z) (hc.lives r x))
           (λ (x : IsAmong more r). live_back c d start r inside (hd.lives r x))
           (among_append live more r is);
       fresh = λ r k t is has. ⊎_elim
           (λ (x : IsAmong live r). ⊎_elim
-              (λ (y : Stands c start k has.instruction). hc.fresh r k t x (record { instruction = has.instruction; there = y; is = has.is }))
-              (λ (y : Stands d (end_of c start) k has.instruction).
-                  let high : r < b = (live_owned c start a b r hc.is_section.owned (hc.lives r x)).1 in
-                  let low : b ≤ r = (start_owned d (end_of c start) b e r k t [] hd.is_section (record { instruction = has.instruction; there = y; is = has.is })).0 in
-                  let z : ⊥ = omega arith in z)
-              (split c d start k has.instruction has.there))
+          (λ (y : Stands c start k has.instruction). hc.fresh r k t x (record { instruction = has.instruction; there = y; is = has.is }))
+          (λ (y : Stands d (end_of c start) k has.instruction).
+          let high : r < b = (live_owned c start a b r hc.is_section.owned (hc.lives r x)).1 in
+          let low : b ≤ r = (start_owned d (end_of c start) b e r k t [] hd.is_section (record { instruction = has.instruction; there = y; is = has.is })).0 in
+          let z : ⊥ = omega arith in z)
+          (split c d start k has.instruction has.there))
           (λ (x : IsAmong more r). ⊎_elim
-              (λ (y : Stands c start k has.instruction).
-                  let high : r < b = (start_owned c start a b r k t [] hc.is_section (record { instruction = has.instruction; there = y; is = has.is })).1 in
-                  let low : b ≤ r = (live_owned d (end_of c start) b e r hd.is_section.owned (hd.lives r x)).0 in
-                  let z : ⊥ = omega arith in z)
-              (λ (y : Stands d (end_of c start) k has.instruction). hd.fresh r k t x (record { instruction = has.instruction; there = y; is = has.is }))
-              (split c d start k has.instruction has.there))
+          (λ (y : Stands c start k has.instruction).
+          let high : r < b = (start_owned c start a b r k t [] hc.is_section (record { instruction = has.instruction; there = y; is = has.is })).1 in
+          let low : b ≤ r = (live_owned d (end_of c start) b e r hd.is_section.owned (hd.lives r x)).0 in
+          let z : ⊥ = omega arith in z)
+          (λ (y : Stands d (end_of c start) k has.instruction). hd.fresh r k t x (record { instruction = has.instruction; there = y; is = has.is }))
+          (split c d start k has.instruction has.there))
           (among_append live more r is);
     }
 

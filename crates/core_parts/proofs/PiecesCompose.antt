@@ -1,5 +1,5 @@
 -- Pieces and sections, one behind another.
-use Rattle.std.proofs.Common.{◌≡◌, ◌≢◌, ◌⊎◌, inl, inr, ℕ, ◌+◌, ◌<◌, ◌≤◌, Bool, List, [], ◌∷◌, ◌++◌, length, Option, Some, None, refl, ap, sym, subst, ◌∙◌, ⊎_elim, arith}
+use Rattle.std.proofs.Common.{inl, inr, ℕ, ◌<◌, ◌≤◌, Bool, List, [], ◌∷◌, ◌++◌, sym, subst, ⊎_elim, arith}
 use Rattle.core_ir.specs.Outline.{Outline}
 use Rattle.core_ir.specs.Flow.{IsAmong, Jumps, Stands}
 use Rattle.core_parts.specs.Pieces.{Each, IsInside, IsOutside, IsOwned, IsPiece, IsSection, Leads, end_of}
@@ -42,13 +42,13 @@ module _ (frame : Bool) (c d : List Outline) (start : ℕ) (exits more all : Lis
   leads_on : (q l : ℕ) → Jumps (c ++ d) start q l → Leads start (end_of d (end_of c start)) all l
   leads_on q l j = ⊎_elim
       (λ (front : Jumps c start q l). ⊎_elim
-          (λ (stay : IsInside start (end_of c start) l). let low : start ≤ l = stay.0 in let high : l ≤ end_of c start = stay.1 in inl (low, omega arith))
-          (λ (exit : IsAmong exits l). each_of (Leads start (end_of d (end_of c start)) all) exits lead l exit)
-          (hc.stays q l front))
+      (λ (stay : IsInside start (end_of c start) l). let low : start ≤ l = stay.0 in let high : l ≤ end_of c start = stay.1 in inl (low, omega arith))
+      (λ (exit : IsAmong exits l). each_of (Leads start (end_of d (end_of c start)) all) exits lead l exit)
+      (hc.stays q l front))
       (λ (back : Jumps d (end_of c start) q l). ⊎_elim
-          (λ (stay : IsInside (end_of c start) (end_of d (end_of c start)) l). let low : end_of c start ≤ l = stay.0 in let high : l ≤ end_of d (end_of c start) = stay.1 in inl (omega arith, high))
-          (λ (exit : IsAmong more l). each_of (Leads start (end_of d (end_of c start)) all) more lead_more l exit)
-          (hd.stays q l back))
+      (λ (stay : IsInside (end_of c start) (end_of d (end_of c start)) l). let low : end_of c start ≤ l = stay.0 in let high : l ≤ end_of d (end_of c start) = stay.1 in inl (omega arith, high))
+      (λ (exit : IsAmong more l). each_of (Leads start (end_of d (end_of c start)) all) more lead_more l exit)
+      (hd.stays q l back))
       (jumps_split c d start q l j)
 
   pub pieces : IsPiece frame (c ++ d) start all
@@ -72,13 +72,13 @@ owned_then c d start a b e hc hd =
           (split c d start k i here);
       rising = λ k j r s i h first second is as_well before. ⊎_elim
           (λ (x : Stands c start k i). ⊎_elim
-              (λ (y : Stands c start j h). hc.rising k j r s i h x y is as_well before)
-              (λ (y : Stands d (end_of c start) j h). let low : r < b = (hc.owned k r i x is).1 in let high : b ≤ s = (hd.owned j s h y as_well).0 in omega arith)
-              (split c d start j h second))
+          (λ (y : Stands c start j h). hc.rising k j r s i h x y is as_well before)
+          (λ (y : Stands d (end_of c start) j h). let low : r < b = (hc.owned k r i x is).1 in let high : b ≤ s = (hd.owned j s h y as_well).0 in omega arith)
+          (split c d start j h second))
           (λ (x : Stands d (end_of c start) k i). ⊎_elim
-              (λ (y : Stands c start j h). let low : end_of c start ≤ k = x.from in let high : j < end_of c start = within c start j h y in absurd (omega arith))
-              (λ (y : Stands d (end_of c start) j h). hd.rising k j r s i h x y is as_well before)
-              (split c d start j h second))
+          (λ (y : Stands c start j h). let low : end_of c start ≤ k = x.from in let high : j < end_of c start = within c start j h y in absurd (omega arith))
+          (λ (y : Stands d (end_of c start) j h). hd.rising k j r s i h x y is as_well before)
+          (split c d start j h second))
           (split c d start k i first);
     }
 

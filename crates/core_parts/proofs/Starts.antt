@@ -1,16 +1,15 @@
 -- A part, and the start of a thread.
-use Rattle.std.proofs.Common.{◌≡◌, ◌≢◌, ◌⊎◌, inl, inr, ℕ, suc, ◌+◌, ◌<◌, ◌≤◌, Bool, true, false, List, [], ◌∷◌, ◌++◌, length, Option, Some, None, refl, ap, sym, subst, ◌∙◌, ⊎_elim, arith}
-use Rattle.core_ir.specs.declared.role.Role.{Role}
+use Rattle.std.proofs.Common.{◌≡◌, ◌≢◌, inl, inr, ℕ, ◌+◌, ◌<◌, ◌≤◌, Bool, List, [], ◌∷◌, ◌++◌, Some, None, refl, ap, sym, subst, ◌∙◌, ⊎_elim, arith}
 use Rattle.core_ir.specs.declared.role.Role.TheVariants as role
 use Rattle.core_ir.specs.Outline.{Outline}
-use Rattle.core_ir.specs.Flow.{HasRole, IsAmong, Jumps, Serves, Stands}
-use Rattle.core_parts.specs.Outlines.{acting, forking, starting_argument, starting_function}
+use Rattle.core_ir.specs.Flow.{IsAmong, Stands}
+use Rattle.core_parts.specs.Outlines.{forking, starting_argument, starting_function}
 use Rattle.core_parts.specs.Pieces.{IsLive, IsOwned, IsPart, end_of}
-use Rattle.core_parts.specs.Places.{Forks, FrameFits, InStart, IsFresh, IsLinked, IsStart, NamesUsed, RoleFits, Served}
+use Rattle.core_parts.specs.Places.{Forks, IsFresh, IsLinked, IsStart, Served}
 use Rattle.core_parts.proofs.PartsCompose.{live_front, live_owned, same_register}
 use Rattle.core_parts.proofs.PiecesCompose.{owned_then}
 use Rattle.core_parts.proofs.Tails.{all_one, all_two, all_three, first_there, last_live, live_serves, no_jump, owned_none, owned_one, second_there, tail_part, third_there, unreached}
-use Rattle.core_parts.proofs.Windows.{in_back, one, one_server, split, within}
+use Rattle.core_parts.proofs.Windows.{in_back, one, split, within}
 
 started_same : (t u f g : ℕ) → role.StartFn t f ≡ role.StartFn u g → f ≡ g
 started_same t u f g e = cc
@@ -97,7 +96,7 @@ module _ (c : List Outline) (start a b : ℕ) (live : List ℕ) (f x : ℕ) (h :
         ⊎_elim
         (λ (y : Stands c start v has.instruction). h.fresh f v t is_f (record { instruction = has.instruction; there = y; is = subst (λ n. has.instruction.role ≡ role.StartFn t n) (sym same_f) has.is }))
         (λ (y : Stands run base v has.instruction).
-            all_three (λ v i. v < base + 1 + 1 → i.role ≡ role.StartFn t g → ⊥) base (forking b) (starting_argument b x) (starting_function b f) (λ lt is. cc) (λ lt is. cc) (λ lt is. omega arith) v has.instruction y before has.is)
+        all_three (λ v i. v < base + 1 + 1 → i.role ≡ role.StartFn t g → ⊥) base (forking b) (starting_argument b x) (starting_function b f) (λ lt is. cc) (λ lt is. cc) (λ lt is. omega arith) v has.instruction y before has.is)
         (split c run start v has.instruction has.there);
   }
 

@@ -1,15 +1,14 @@
 -- A few instructions behind a part.
-use Rattle.std.proofs.Common.{◌≡◌, ◌≢◌, ◌⊎◌, inl, inr, ℕ, suc, ◌+◌, ◌-◌, ◌<◌, ◌≤◌, Bool, true, List, [], ◌∷◌, ◌++◌, length, Option, Some, None, refl, ap, sym, subst, ◌∙◌, ⊎_elim, arith}
+use Rattle.std.proofs.Common.{◌≡◌, ◌≢◌, ◌⊎◌, inl, inr, ℕ, ◌+◌, ◌-◌, ◌<◌, ◌≤◌, Bool, true, List, [], ◌∷◌, ◌++◌, Option, Some, None, refl, sym, subst, ◌∙◌, ⊎_elim, arith}
 use Rattle.std.specs.Prelude.{slice_get}
-use Rattle.core_ir.specs.declared.role.Role.{Role}
 use Rattle.core_ir.specs.declared.role.Role.TheVariants as role
 use Rattle.core_ir.specs.Outline.{Outline}
-use Rattle.core_ir.specs.Flow.{HasRole, IsAmong, IsUnreached, Jumps, Serves, Stands}
+use Rattle.core_ir.specs.Flow.{HasRole, IsAmong, IsUnreached, Jumps, Stands}
 use Rattle.core_parts.specs.Pieces.{Each, IsInside, IsLive, IsOutside, IsOwned, IsPart, IsPiece, IsSection, end_of}
 use Rattle.core_parts.specs.Places.{IsLinked, Served}
 use Rattle.core_parts.proofs.PartsCompose.{jumps_inside, live_back, live_front, live_owned, same_register, start_owned}
 use Rattle.core_parts.proofs.PiecesCompose.{each_of, never_both, owned_then}
-use Rattle.core_parts.proofs.Windows.{end_append, front_window, in_back, in_front, jumps_split, linked_in, one, split, within}
+use Rattle.core_parts.proofs.Windows.{end_append, front_window, in_back, in_front, jumps_split, linked_in, split, within}
 
 -- ---- short lists
 
@@ -187,14 +186,14 @@ module _ (c tail : List Outline) (start a b e : ℕ) (live : List ℕ) (h : IsPa
         (from r is);
     fresh = λ r k t is has. ⊎_elim
         (λ (x : Stands c start k has.instruction).
-            let there : HasRole c start k (role.StartFn t r) = record { instruction = has.instruction; there = x; is = has.is } in
-            ⊎_elim
-            (λ (y : IsAmong live r). h.fresh r k t y there)
-            (λ (y : IsLive tail (end_of c start) r).
-                let p : r < b = (start_owned c start a b r k t [] h.is_section there).1 in
-                let q : b ≤ r = (live_owned tail (end_of c start) b e r owned y).0 in
-                let z : ⊥ = omega arith in z)
-            (from r is))
+        let there : HasRole c start k (role.StartFn t r) = record { instruction = has.instruction; there = x; is = has.is } in
+        ⊎_elim
+        (λ (y : IsAmong live r). h.fresh r k t y there)
+        (λ (y : IsLive tail (end_of c start) r).
+        let p : r < b = (start_owned c start a b r k t [] h.is_section there).1 in
+        let q : b ≤ r = (live_owned tail (end_of c start) b e r owned y).0 in
+        let z : ⊥ = omega arith in z)
+        (from r is))
         (λ (x : Stands tail (end_of c start) k has.instruction). fresh r k t is (record { instruction = has.instruction; there = x; is = has.is }))
         (split c tail start k has.instruction has.there);
   }

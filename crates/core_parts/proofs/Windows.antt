@@ -1,15 +1,15 @@
 -- Code that stands in other code: what is asked at its places is met there too, where no jump from elsewhere leads strictly
 -- inside it.
-use Rattle.std.proofs.Common.{◌≡◌, ◌≢◌, ◌⊎◌, inl, inr, ℕ, zero, suc, ◌+◌, ◌-◌, ◌<◌, ◌≤◌, Bool, true, false, List, [], ◌∷◌, ◌++◌, length, Option, Some, None, refl, ap, sym, subst, ◌∙◌, ⊎_elim, arith, length-append}
+use Rattle.std.proofs.Common.{◌≡◌, ◌≢◌, ◌⊎◌, inl, inr, ℕ, zero, suc, ◌+◌, ◌-◌, ◌<◌, ◌≤◌, Bool, true, false, List, [], ◌∷◌, ◌++◌, length, refl, ap, sym, ◌∙◌, ⊎_elim, arith, length-append}
 use Rattle.std.specs.Prelude.{slice_get}
 use Rattle.std.proofs.lemmas.Bool.{cases_eq, cases_lt}
 use Rattle.std.proofs.lemmas.Option.{same_Some, slice_get_within}
 use Rattle.core_ir.specs.declared.role.Role.{Role}
 use Rattle.core_ir.specs.declared.role.Role.TheVariants as role
 use Rattle.core_ir.specs.Outline.{Outline}
-use Rattle.core_ir.specs.Flow.{Chain, from_load, from_slot, through, HasRole, IsAmong, IsKept, IsUnreached, Jumps, Serves, Stands, Unbroken}
+use Rattle.core_ir.specs.Flow.{Chain, from_load, from_slot, through, HasRole, IsAmong, IsUnreached, Jumps, Serves, Stands, Unbroken}
 use Rattle.core_parts.specs.Pieces.{end_of}
-use Rattle.core_parts.specs.Places.{Behind, Chained, Forks, FrameFits, InStart, IsFresh, IsLinked, IsStart, LeaveFits, NamesUsed, ReturnFits, RoleFits, Served}
+use Rattle.core_parts.specs.Places.{Behind, Chained, FrameFits, InStart, IsFresh, IsLinked, IsStart, LeaveFits, NamesUsed, ReturnFits, RoleFits, Served}
 
 -- ---- two codes, one behind the other
 
@@ -65,9 +65,9 @@ one_server c start s t u r a b =
     ⊎_elim
     (λ (e : s ≡ t). e)
     (λ (ne : s ≢ t). ⊎_elim
-        (λ (lt : s < t). absurd (a.nearest t b.by b.there lt tu b.defines))
-        (λ (le : t ≤ s). absurd (b.nearest s a.by a.there (omega arith) su a.defines))
-        (cases_lt s t))
+    (λ (lt : s < t). absurd (a.nearest t b.by b.there lt tu b.defines))
+    (λ (le : t ≤ s). absurd (b.nearest s a.by a.there (omega arith) su a.defines))
+    (cases_lt s t))
     (cases_eq s t)
 
 -- a chain begins in the code, before its use

@@ -1,5 +1,9 @@
 use Rattle.core_parts.proofs.Accesses.{loads, locks, stores}
+use Rattle.core_parts.proofs.Bodies.{frameless, framed}
+use Rattle.core_parts.proofs.Calls.{calls}
 use Rattle.core_parts.proofs.Extensions.{gives, uses}
+use Rattle.core_parts.proofs.Leaves as leave
+use Rattle.core_parts.proofs.Leaves.{branch, jump}
 use Rattle.core_parts.proofs.PartsCompose as parts
 use Rattle.core_parts.proofs.PiecesCompose.{pieces, sections, weaker}
 use Rattle.core_parts.proofs.Starts.{starts}
@@ -23,16 +27,19 @@ returns c = record {
     stores = stores;
     locks = locks;
     starts = starts;
-    calls = ?;
+    calls = calls;
   };
   pieces = record {
-    branch = ?;
-    jump = ?;
-    returns = ?;
-    leaves = ?;
+    branch = branch;
+    jump = jump;
+    returns = leave.returns;
+    leaves = leave.leaves;
     pieces = pieces;
     sections = sections;
     weaker = weaker;
   };
-  bodies = ?;
+  bodies = record {
+    frameless = frameless;
+    framed = framed;
+  };
 }
