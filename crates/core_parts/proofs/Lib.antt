@@ -8,3 +8,4 @@ mod Starts
 mod Calls
 mod Leaves
 mod Bodies
+mod Chains

@@ -1,5 +1,5 @@
 -- How code composes: parts into parts, parts into pieces, pieces into bodies that are well formed.
-use Rattle.std.specs.Prelude.{◌≡◌, ℕ, ◌+◌, ◌<◌, ◌⊎◌, Bool, true, false, List, [], ◌∷◌, ◌++◌, Option, Some, None, IfSome}
+use Rattle.std.specs.Prelude.{◌≡◌, ◌≢◌, ℕ, ◌+◌, ◌<◌, ◌⊎◌, Bool, true, false, List, [], ◌∷◌, ◌++◌, Option, Some, None, IfSome}
 use Rattle.core_ir.specs.declared.role.Role.{Role}
 use Rattle.core_ir.specs.declared.role.Role.TheVariants as role
 use Rattle.core_ir.specs.Outline.{Outline}
@@ -114,6 +114,43 @@ pub record ExtensionLaws : Type 0 where
       → Chain c start (end_of c start) f k
       → IsPart (c ++ calling f args s ∷ []) start a b live
 
+-- ---- chains
+
+-- the register, as a use directly behind the code would have it, is made by conversions alone from what place k gives
+abbrev pub EndsChain : List Outline → ℕ → ℕ → ℕ → Type 0
+EndsChain code start r k = Chain code start (end_of code start) r k
+
+pub record ChainLaws : Type 0 where
+  -- a load or the value of a slot, behind any code
+  pub load :
+      (c : List Outline) (start r p : ℕ) (i : Outline)
+      → i.role ≡ role.Load p
+      → i.defined ≡ Some r
+      → EndsChain (c ++ i ∷ []) start r (end_of c start)
+  pub slot :
+      (c : List Outline) (start r s : ℕ) (i : Outline)
+      → i.role ≡ role.Slot s
+      → i.defined ≡ Some r
+      → EndsChain (c ++ i ∷ []) start r (end_of c start)
+  -- a conversion, behind the chain of what it converts
+  pub cast :
+      (c : List Outline) (start r a k : ℕ) (i : Outline)
+      → i.role ≡ role.Cast a
+      → i.defined ≡ Some r
+      → EndsChain c start a k
+      → EndsChain (c ++ i ∷ []) start r k
+  -- an instruction that doesn't define the register
+  pub over :
+      (c : List Outline) (start r k : ℕ) (i : Outline)
+      → i.defined ≢ Some r
+      → EndsChain c start r k
+      → EndsChain (c ++ i ∷ []) start r k
+  -- other code in front
+  pub behind :
+      (c d : List Outline) (start r k : ℕ)
+      → EndsChain d (end_of c start) r k
+      → EndsChain (c ++ d) start r k
+
 -- ---- pieces
 
 pub record PieceLaws : Type 0 where
@@ -186,5 +223,6 @@ pub record BodyLaws : Type 0 where
 pub record PartLaws : Type 0 where
   pub composition : CompositionLaws
   pub extension : ExtensionLaws
+  pub chains : ChainLaws
   pub pieces : PieceLaws
   pub bodies : BodyLaws

@@ -1,6 +1,7 @@
 use Rattle.core_parts.proofs.Accesses.{loads, locks, stores}
 use Rattle.core_parts.proofs.Bodies.{frameless, framed}
 use Rattle.core_parts.proofs.Calls.{calls}
+use Rattle.core_parts.proofs.Chains as chain
 use Rattle.core_parts.proofs.Extensions.{gives, uses}
 use Rattle.core_parts.proofs.Leaves as leave
 use Rattle.core_parts.proofs.Leaves.{branch, jump}
@@ -28,6 +29,13 @@ returns c = record {
     locks = locks;
     starts = starts;
     calls = calls;
+  };
+  chains = record {
+    load = λ c start r p i is defines. chain.load c start i r p is defines;
+    slot = λ c start r s i is defines. chain.slot c start i r s is defines;
+    cast = λ c start r a k i is defines h. chain.cast c start i r a k is defines h;
+    over = λ c start r k i other h. chain.over c start i r k other h;
+    behind = chain.behind;
   };
   pieces = record {
     branch = branch;

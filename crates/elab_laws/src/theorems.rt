@@ -1,0 +1,12 @@
+//! The laws of elaborated code.
+
+ghost use Rattle.elab_laws.specs.Theorems.{RowsAreGood};
+
+use core_parts::parts_compose;
+
+/// Each row gives a part of a full expression where its operands do.
+pub fn rows_are_good()
+    ensures { RowsAreGood }
+{
+    parts_compose();
+}
