@@ -76,8 +76,8 @@ start_owned c start a b r k t exits h has =
     let s = l.served r named in
     h.owned.owned s.server r s.serves.by s.serves.there s.serves.defines
 
-pub then : (c d : List Outline) (start a b e : ℕ) (live more : List ℕ) → IsPart c start a b live → IsPart d (end_of c start) b e more → IsPart (c ++ d) start a e (live ++ more)
-then c d start a b e live more hc hd =
+pub append : (c d : List Outline) (start a b e : ℕ) (live more : List ℕ) → IsPart c start a b live → IsPart d (end_of c start) b e more → IsPart (c ++ d) start a e (live ++ more)
+append c d start a b e live more hc hd =
     let inside = jumps_inside true c start (hc.is_section.piece true) in
     record {
       is_section = sections c d start a b e [] [] [] hc.is_section hd.is_section tt tt tt tt;

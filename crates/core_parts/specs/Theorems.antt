@@ -48,7 +48,7 @@ pub record CompositionLaws : Type 0 where
   -- no code
   pub none : (start a : ℕ) → IsPart [] start a a []
   -- one part behind another
-  pub then :
+  pub append :
       (c d : List Outline) (start a b e : ℕ) (live more : List ℕ)
       → IsPart c start a b live
       → IsPart d (end_of c start) b e more

@@ -15,7 +15,7 @@ use Rattle.core_parts.specs.Theorems.{AreAmong, PartLaws}
 use Rattle.elab_expr.specs.Addresses.{Lvalue, array_value, address_of, assigned, copied_made, copied_part, copied_parts, loaded, lvalue_value, pointing, restored_made, stored_made, struct_assigned, updated, value_at}
 use Rattle.elab_expr.specs.Made.{Code, Made, behind, extended, followed}
 use Rattle.elab_laws.proofs.GoodRows.{ahead, among_left, among_right, either, extended_value, first_is}
-use Rattle.elab_laws.proofs.Lifted.{fewer, gives, loads, stores, then, uses}
+use Rattle.elab_laws.proofs.Lifted.{fewer, gives, loads, stores, append, uses}
 use Rattle.elab_laws.specs.Values.{IsGood, IsMade, IsValue, behind_made, outlines}
 
 module _ (laws : PartLaws) where
@@ -47,7 +47,7 @@ module _ (laws : PartLaws) where
   pub stored_value : (root t : Ty) (x y : Made) (place register : ℕ) (more : List ℕ) → IsValue x place register more → IsValue y (behind_made place x) x.register [] → IsValue (stored_made root t x y) place register more
   stored_value root t x y place register more hx hy =
       let live = (x.result ∷ more) ++ y.result ∷ [] in
-      let both = then laws x.code y.code place register x.register y.register (x.result ∷ more) (y.result ∷ []) hx hy in
+      let both = append laws x.code y.code place register x.register y.register (x.result ∷ more) (y.result ∷ []) hx hy in
       let all = stores laws (x.code ++ y.code) place register y.register live y.result x.result root t both (among_right (x.result ∷ more) (y.result ∷ []) y.result (inl refl)) (inl refl) in
       fewer laws (x.code ++ y.code ++ Touch y.result root ∷ Store y.result x.result t ∷ []) place register y.register live (x.result ∷ more) all (λ r is. among_left (x.result ∷ more) (y.result ∷ []) r is)
 
@@ -105,7 +105,7 @@ module _ (laws : PartLaws) where
       let x = from.address place register slot in
       let y = behind place x to.address in
       let live = (x.result ∷ more) ++ y.result ∷ [] in
-      let both = then laws x.code y.code place register x.register y.register (x.result ∷ more) (y.result ∷ []) h (ha (place + length x.code) x.register x.slot) in
+      let both = append laws x.code y.code place register x.register y.register (x.result ∷ more) (y.result ∷ []) h (ha (place + length x.code) x.register x.slot) in
       let all = parts_copied from.root to.root x.result y.result 0 parts (x.code ++ y.code) place register y.register live (inl refl) (among_right (x.result ∷ more) (y.result ∷ []) y.result (inl refl)) both in
       fewer laws (x.code ++ y.code ++ copied_parts from.root to.root x.result y.result y.register 0 parts) place register (y.register + 3 * length parts) live (x.result ∷ more) all
       (λ r is. among_left (x.result ∷ more) (y.result ∷ []) r is)

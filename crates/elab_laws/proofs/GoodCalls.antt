@@ -12,7 +12,7 @@ use Rattle.core_parts.specs.Theorems.{AreAmong, IsFree, PartLaws}
 use Rattle.elab_expr.specs.Calls.{Listed, arguments, call_made, called, first_of, indirect_made, kept, second_of, spawned, with_argument, with_callee}
 use Rattle.elab_expr.specs.Made.{Code, Made}
 use Rattle.elab_laws.proofs.GoodRows.{ahead, among_left, among_right, first_among}
-use Rattle.elab_laws.proofs.Lifted.{calls, end_outlines, fewer, gives, locks, outlines_append, starts, then, unlocks, uses}
+use Rattle.elab_laws.proofs.Lifted.{calls, end_outlines, fewer, gives, locks, outlines_append, starts, append, unlocks, uses}
 use Rattle.elab_laws.specs.Values.{AreGood, AreValues, EndsChain, IsGood, IsMade, IsNoNumber, IsValue, outlines}
 
 module _ (laws : PartLaws) where
@@ -23,7 +23,7 @@ module _ (laws : PartLaws) where
   arguments_values (c ∷ cs) place register slot h =
       let x = c place register slot in
       let l = arguments cs (place + length x.code) x.register x.slot in
-      then laws x.code l.code place register x.register l.register (x.result ∷ []) l.results (h.0 place register slot) (arguments_values cs (place + length x.code) x.register x.slot h.1)
+      append laws x.code l.code place register x.register l.register (x.result ∷ []) l.results (h.0 place register slot) (arguments_values cs (place + length x.code) x.register x.slot h.1)
 
   -- ---- the call and its result
 
@@ -59,7 +59,7 @@ module _ (laws : PartLaws) where
   with_call : (t : FnTy) (s : Option ℕ) (l : Listed) (x : Made) (place register k : ℕ) → AreValues l place register → IsValue x (place + length l.code) l.register [] → EndsChain x.code (place + length l.code) x.result k
       → IsPart (outlines (l.code ++ x.code ++ CallInd x.result l.results t s ∷ [])) place register x.register (l.results ++ x.result ∷ [])
   with_call t s l x place register k hl hx chain =
-      let both = then laws l.code x.code place register l.register x.register l.results (x.result ∷ []) hl hx in
+      let both = append laws l.code x.code place register l.register x.register l.results (x.result ∷ []) hl hx in
       calls laws (l.code ++ x.code) place register x.register (l.results ++ x.result ∷ []) x.result k l.results t s both
       (among_right l.results (x.result ∷ []) x.result (inl refl)) (λ r is. among_left l.results (x.result ∷ []) r is) (callee_chain l x place k chain)
 

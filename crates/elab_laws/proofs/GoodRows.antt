@@ -14,7 +14,7 @@ use Rattle.core_ir.specs.Typed.{element_of}
 use Rattle.core_parts.specs.Pieces.{IsPart}
 use Rattle.core_parts.specs.Theorems.{AreAmong, IsFree, PartLaws}
 use Rattle.elab_expr.specs.Made.{Code, Made, behind, combined, combined_made, converted, extended, extended_made, followed, followed_made, single}
-use Rattle.elab_laws.proofs.Lifted.{fewer, gives, then, uses}
+use Rattle.elab_laws.proofs.Lifted.{fewer, gives, append, uses}
 use Rattle.elab_laws.specs.Values.{IsGood, IsMade, IsValue, behind_made, outlines}
 
 -- ---- lists of registers
@@ -76,7 +76,7 @@ module _ (laws : PartLaws) where
       → IsValue x place register more → IsValue y (behind_made place x) x.register [] → IsValue (combined_made i x y) place register more
   combined_value i x y place register more free quiet defines known hx hy =
       let live = (x.result ∷ more) ++ y.result ∷ [] in
-      let both = then laws x.code y.code place register x.register y.register (x.result ∷ more) (y.result ∷ []) hx hy in
+      let both = append laws x.code y.code place register x.register y.register (x.result ∷ more) (y.result ∷ []) hx hy in
       let all = gives laws (x.code ++ y.code) (i y.register x.result y.result) place register y.register live both free quiet defines known in
       fewer laws (x.code ++ y.code ++ i y.register x.result y.result ∷ []) place register (y.register + 1) (y.register ∷ live) (y.register ∷ more) all
       (ahead y.register more live (λ r is. among_left (x.result ∷ more) (y.result ∷ []) r (inr is)))

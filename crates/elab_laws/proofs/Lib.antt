@@ -1,2 +1,7 @@
 mod Lifted
 mod GoodRows
+mod GoodChoices
+mod GoodAddresses
+mod GoodCalls
+mod Callees
+mod GoodOperators

@@ -22,10 +22,10 @@ outlines_append c d = map-append outline_of c d
 module _ (laws : PartLaws) where
   -- ---- parts
 
-  pub then : (c d : List Instr) (start a b e : ℕ) (live more : List ℕ) → IsPart (outlines c) start a b live → IsPart (outlines d) (start + length c) b e more → IsPart (outlines (c ++ d)) start a e (live ++ more)
-  then c d start a b e live more hc hd =
+  pub append : (c d : List Instr) (start a b e : ℕ) (live more : List ℕ) → IsPart (outlines c) start a b live → IsPart (outlines d) (start + length c) b e more → IsPart (outlines (c ++ d)) start a e (live ++ more)
+  append c d start a b e live more hc hd =
       subst (λ o. IsPart o start a e (live ++ more)) (sym (outlines_append c d))
-      (laws.composition.then (outlines c) (outlines d) start a b e live more hc (subst (λ n. IsPart (outlines d) n b e more) (sym (end_outlines c start)) hd))
+      (laws.composition.append (outlines c) (outlines d) start a b e live more hc (subst (λ n. IsPart (outlines d) n b e more) (sym (end_outlines c start)) hd))
 
   pub fewer : (c : List Instr) (start a b : ℕ) (live less : List ℕ) → IsPart (outlines c) start a b live → AreAmong less live → IsPart (outlines c) start a b less
   fewer c start a b live less h known = laws.composition.fewer (outlines c) start a b live less h known

@@ -18,7 +18,7 @@ returns c = record {
     in_front = in_front;
     in_back = in_back;
     none = parts.none;
-    then = parts.then;
+    append = parts.append;
     fewer = parts.fewer;
   };
   extension = record {
