@@ -5,3 +5,5 @@ mod GoodAddresses
 mod GoodCalls
 mod Callees
 mod GoodOperators
+mod GoodBuiltIns
+mod Numbers

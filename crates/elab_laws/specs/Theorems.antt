@@ -1,15 +1,21 @@
 -- Each row of elaboration gives a part of a full expression where its operands do. Of the first operand's code this is
 -- asked from the row's place, register and slot, with further registers that stay live; of later ones from everywhere.
-use Rattle.std.specs.Prelude.{◌≡◌, ℕ, ℤ, true, false, ◌+◌, List, [], ◌∷◌, length}
+use Rattle.std.specs.Prelude.{◌≡◌, ◌≢◌, ℕ, ℤ, true, false, ◌+◌, ◌<◌, List, [], ◌∷◌, ◌++◌, length, Some}
 use Rattle.c_types.specs.declared.ty.FnTy.{FnTy}
 use Rattle.c_types.specs.declared.ty.Ty.{Ty}
+use Rattle.c_typed.specs.declared.entity.BuiltIn.{BuiltIn}
+use Rattle.c_typed.specs.declared.entity.BuiltIn.TheVariants as built_in
+use Rattle.core_ir.specs.declared.instr.Instr.{Instr}
 use Rattle.core_ir.specs.declared.operator.Operator.{Operator}
+use Rattle.core_ir.specs.declared.role.Role.TheVariants as role
+use Rattle.core_ir.specs.Instructions.{defined, role_of}
+use Rattle.core_parts.specs.Pieces.{IsPart}
 use Rattle.elab_expr.specs.Addresses.{Lvalue, address_of, array_value, assigned, global_address, loaded, local_address, lvalue_value, member_address, slot_assigned, struct_assigned, updated}
-use Rattle.elab_expr.specs.Calls.{Listed, arguments, call_code, indirect_code, spawned}
+use Rattle.elab_expr.specs.Calls.{Listed, arguments, built_in_made, call_code, indirect_code, spawned}
 use Rattle.elab_expr.specs.Choices.{and_code, conditional_code, or_code}
 use Rattle.elab_expr.specs.Made.{Code, Made, converted}
 use Rattle.elab_expr.specs.Rows.{binary_code, function_name, number, plus_pointer, pointer_difference, pointer_minus, pointer_plus, slot_value, string, unary_code}
-use Rattle.elab_laws.specs.Values.{AreGood, AreValues, IsGood, IsMade, IsNoNumber, IsValue}
+use Rattle.elab_laws.specs.Values.{AreGood, AreValues, IsGood, IsMade, IsNoNumber, IsValue, outlines}
 
 -- the code gives a value from this place, register and slot, and these registers are live behind it too
 abbrev pub GivesAt : Code → ℕ → ℕ → ℕ → List ℕ → Type 0
@@ -37,7 +43,7 @@ KeepsAddress row =
     → GivesAt x.address place register slot more
     → GivesAt (row x) place register slot more
 
--- no call
+-- one instruction
 pub record SingleRows : Type 0 where
   pub number : (v : ℤ) → IsGood (number v)
   pub string : (g : ℕ) → IsGood (string g)
@@ -103,9 +109,42 @@ pub record CallRows : Type 0 where
       → AreValues l place register
       → IsValue (spawned l) place register []
 
+-- a built-in call of one argument
+abbrev pub BuiltInRow : BuiltIn → Type 0
+BuiltInRow b =
+    (l : Listed) (r place register : ℕ)
+    → l.results ≡ r ∷ []
+    → AreValues l place register
+    → IsValue (built_in_made b l) place register []
+
+-- ---- which registers hold no thread's number
+
+pub record NumberLaws : Type 0 where
+  -- two codes, one behind the other
+  pub append :
+      (c d : List Instr) (place r : ℕ)
+      → IsNoNumber c place r
+      → IsNoNumber d (place + length c) r
+      → IsNoNumber (c ++ d) place r
+  -- a register from before the part
+  pub outside :
+      (d : List Instr) (place from to r : ℕ) (live : List ℕ)
+      → IsPart (outlines d) place from to live
+      → r < from
+      → IsNoNumber d place r
+  -- what the last instruction defines
+  pub last :
+      (c : List Instr) (i : Instr) (place from to r : ℕ) (live : List ℕ)
+      → IsPart (outlines (c ++ i ∷ [])) place from to live
+      → defined i ≡ Some r
+      → role_of i ≢ role.Fork
+      → IsNoNumber (c ++ i ∷ []) place r
+
 pub record RowsAreGood : Type 0 where
   pub singles : SingleRows
   pub operators : OperatorRows
   pub choices : ChoiceRows
   pub addresses : AddressRows
   pub calls : CallRows
+  pub built_ins : (b : BuiltIn) → b ≢ built_in.Spawn → BuiltInRow b
+  pub numbers : NumberLaws

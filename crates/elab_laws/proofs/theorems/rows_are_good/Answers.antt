@@ -1,9 +1,11 @@
 use Rattle.core_ir.specs.declared.instr.Instr.TheVariants.{AddrF, AddrG, AddrL, GetLocal, PtrConst, SetLocal}
 use Rattle.elab_expr.specs.Calls.{arguments}
 use Rattle.elab_laws.proofs.GoodAddresses.{assigned_value, loaded_value, lvalue_value_value, pointing_value, struct_value, updated_value}
+use Rattle.elab_laws.proofs.GoodBuiltIns.{built_in_value}
 use Rattle.elab_laws.proofs.GoodCalls.{arguments_values, call_done, call_value, spawned_value}
 use Rattle.elab_laws.proofs.GoodOperators.{and_good, binary_keeps, conditional_good, difference_keeps, indirect_good, indirect_is_done, minus_keeps, number_good, or_good, plus_keeps, plus_pointer_keeps, unary_keeps}
 use Rattle.elab_laws.proofs.GoodRows.{converted_value, extended_value, followed_value, single_value}
+use Rattle.elab_laws.proofs.Numbers as numbers
 use Rattle.elab_laws.proofs.theorems.rows_are_good.Goals as goal
 use Rattle.std.proofs.Common.{refl}
 
@@ -51,5 +53,11 @@ returns c =
         indirect = indirect_good laws;
         void_indirect = indirect_is_done laws;
         spawn = spawned_value laws;
+      };
+      built_ins = λ b no_spawn l r place register is h. built_in_value laws l r place register is h b no_spawn;
+      numbers = record {
+        append = numbers.append laws;
+        outside = numbers.outside laws;
+        last = numbers.last laws;
       };
     }

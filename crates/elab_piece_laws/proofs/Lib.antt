@@ -1,0 +1,3 @@
+mod LiftedPieces
+mod GoodStatements
+mod GoodBodies
