@@ -7,3 +7,6 @@ mod Callees
 mod GoodOperators
 mod GoodBuiltIns
 mod Numbers
+mod FittingRows
+mod FittingCalls
+mod InRange

@@ -1,2 +1,4 @@
 pub mod Values
 pub mod Theorems
+pub mod Fitting
+pub mod FittingLaws

@@ -3,4 +3,4 @@
 
 mod theorems;
 
-pub use theorems::rows_are_good;
+pub use theorems::{rows_are_good, rows_fit};

@@ -1,5 +1,6 @@
 //! The laws of elaborated code.
 
+ghost use Rattle.elab_laws.specs.FittingLaws.{RowsFit};
 ghost use Rattle.elab_laws.specs.Theorems.{RowsAreGood};
 
 use core_parts::parts_compose;
@@ -10,3 +11,8 @@ pub fn rows_are_good()
 {
     parts_compose();
 }
+
+/// Numbers, slots and types are in range in each row's code where they are in its operands'.
+pub fn rows_fit()
+    ensures { RowsFit }
+{}
