@@ -10,3 +10,5 @@ mod Numbers
 mod FittingRows
 mod FittingCalls
 mod InRange
+mod TouchingRows
+mod TouchedLoads

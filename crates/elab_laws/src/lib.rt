@@ -3,4 +3,4 @@
 
 mod theorems;
 
-pub use theorems::{rows_are_good, rows_fit};
+pub use theorems::{rows_are_good, rows_fit, rows_touch};
