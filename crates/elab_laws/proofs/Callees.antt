@@ -1,5 +1,5 @@
 -- A register that has a place has a chain.
-use Rattle.std.proofs.Common.{◌≡◌, ◌≢◌, inl, inr, ℕ, ◌+◌, ◌⊎◌, Bool, true, false, not, ◌&&◌, ◌||◌, List, [], ◌∷◌, ◌++◌, length, reverse, Option, Some, None, refl, ap, sym, subst, ◌∙◌, ⊎_elim, arith, append_assoc, eq-eqb, ne_eqb}
+use Rattle.std.proofs.Common.{◌≡◌, ◌≢◌, inl, inr, ℕ, ◌⊎◌, Bool, true, false, not, ◌&&◌, ◌||◌, List, [], ◌∷◌, ◌++◌, reverse, Option, Some, None, refl, ap, sym, subst, ⊎_elim, append_assoc, eq-eqb, ne_eqb}
 use Rattle.std.proofs.lemmas.Bool.{cases_eq}
 use Rattle.std.proofs.lemmas.List.{reverse-append, reverse-reverse}
 use Rattle.std.proofs.lemmas.Option.{same_Some}
@@ -7,14 +7,13 @@ use Rattle.std.specs.Prelude.{if◌then◌else◌, nat_eq}
 use Rattle.core_ir.specs.declared.instr.Instr.{Instr}
 use Rattle.core_ir.specs.declared.instr.Instr.TheVariants.{Cast, GetLocal, Load, SetLocal}
 use Rattle.core_ir.specs.Flow.{Chain}
-use Rattle.core_ir.specs.Instructions.{defined, outline_of, role_of}
-use Rattle.core_ir.specs.declared.role.Role.TheVariants as role
+use Rattle.core_ir.specs.Instructions.{defined, outline_of}
 use Rattle.core_parts.specs.Pieces.{end_of}
 use Rattle.core_parts.specs.Theorems.{PartLaws}
 use Rattle.elab_expr.specs.Calls.{defines, has_place, has_place_back, kept, placed}
 use Rattle.elab_expr.specs.Made.{Made}
 use Rattle.elab_laws.proofs.GoodCalls.{kept_value}
-use Rattle.elab_laws.proofs.Lifted.{end_outlines, outlines_append}
+use Rattle.elab_laws.proofs.Lifted.{outlines_append}
 use Rattle.elab_laws.specs.Values.{EndsChain, IsValue, outlines}
 
 abbrev SomeChain : List Instr → ℕ → ℕ → Type 0
@@ -67,12 +66,12 @@ module _ (laws : PartLaws) (start : ℕ) where
       (cases_eq d r))
   back_chain (Cast d a from to ∷ is) r e = subst (λ c. SomeChain c start r) (turned (Cast d a from to) is) (⊎_elim
       (λ (same : d ≡ r).
-          let yes : nat_eq d r ≡ true = eq-eqb d r same in
-          let h = back_chain is a (subst (λ b. has_place_back is (if b then a else r) ≡ true) yes e) in
-          grown (reverse is) (Cast d a from to) r (h.0, laws.chains.cast (outlines (reverse is)) start r a h.0 (outline_of (Cast d a from to)) refl (ap Some same) h.1))
+      let yes : nat_eq d r ≡ true = eq-eqb d r same in
+      let h = back_chain is a (subst (λ b. has_place_back is (if b then a else r) ≡ true) yes e) in
+      grown (reverse is) (Cast d a from to) r (h.0, laws.chains.cast (outlines (reverse is)) start r a h.0 (outline_of (Cast d a from to)) refl (ap Some same) h.1))
       (λ (ne : d ≡ r → ⊥).
-          let no : nat_eq d r ≡ false = ne_eqb d r ne in
-          over (reverse is) (Cast d a from to) r (other_some d r ne) (back_chain is r (subst (λ b. has_place_back is (if b then a else r) ≡ true) no e)))
+      let no : nat_eq d r ≡ false = ne_eqb d r ne in
+      over (reverse is) (Cast d a from to) r (other_some d r ne) (back_chain is r (subst (λ b. has_place_back is (if b then a else r) ≡ true) no e)))
       (cases_eq d r))
   back_chain (i ∷ is) r e = subst (λ c. SomeChain c start r) (turned i is) (plain_chain i is r e (λ h. back_chain is r h))
 

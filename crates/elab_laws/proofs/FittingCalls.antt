@@ -1,5 +1,5 @@
 -- What is asked of each instruction alone, in the rows that branch and in calls.
-use Rattle.std.proofs.Common.{◌≡◌, ℕ, ℤ, pos, suc, ◌+◌, ◌<◌, ◌≤◌, Bool, true, false, List, [], ◌∷◌, ◌++◌, length, Option, Some, None, refl, ap, subst, arith}
+use Rattle.std.proofs.Common.{◌≡◌, ℕ, ℤ, pos, suc, ◌+◌, ◌<◌, ◌≤◌, Bool, true, false, List, [], ◌∷◌, ◌++◌, length, Option, Some, None, refl, ap, arith}
 use Rattle.std.specs.Prelude.{if◌then◌else◌}
 use Rattle.c_types.specs.declared.ty.FnTy.{FnTy}
 use Rattle.c_types.specs.declared.ty.Ty.TheVariants as ty
@@ -77,7 +77,7 @@ module _ (P : Instr → Type 0) (slots : ℕ) (unasked : (i : Instr) → IsUnask
         let g : x.slot ≤ y.slot = hb.grows (place + length x.code + 2) x.register x.slot in
         joined_fits (or_lines x y m t) (truth_lines y.register y.slot (t + 3))
         (joined_fits (tested x m ++ Jump t ∷ []) (tested y (t + 3)) (joined_fits (tested x m) (Jump t ∷ []) (tested_fits x m (ha.fits place register first (omega arith))) (jump_fits t))
-          (tested_fits y (t + 3) (hb.fits (place + length x.code + 2) x.register x.slot (omega arith))))
+        (tested_fits y (t + 3) (hb.fits (place + length x.code + 2) x.register x.slot (omega arith))))
         (truth_fits y.register y.slot (t + 3) (omega arith));
   }
 
@@ -104,9 +104,9 @@ module _ (P : Instr → Type 0) (slots : ℕ) (unasked : (i : Instr) → IsUnask
         let low : s < slots = omega arith in
         joined_fits (tested t f) (arms x y e) (tested_fits t f (hc.fits place register first (omega arith)))
         (joined_fits (kept_in x s ++ Jump e ∷ [] ++ kept_in y s) (GetLocal y.register s ∷ [])
-          (joined_fits (kept_in x s ++ Jump e ∷ []) (kept_in y s) (joined_fits (kept_in x s) (Jump e ∷ []) (kept_in_fits x s low (ha.fits p t.register t.slot (omega arith))) (jump_fits e))
-            (kept_in_fits y s low (hb.fits (p + length x.code + 2) x.register (x.slot + 1) le)))
-          (get_fits y.register s low));
+        (joined_fits (kept_in x s ++ Jump e ∷ []) (kept_in y s) (joined_fits (kept_in x s) (Jump e ∷ []) (kept_in_fits x s low (ha.fits p t.register t.slot (omega arith))) (jump_fits e))
+        (kept_in_fits y s low (hb.fits (p + length x.code + 2) x.register (x.slot + 1) le)))
+        (get_fits y.register s low));
   }
 
   -- ---- arguments

@@ -1,19 +1,14 @@
 -- What is asked of each instruction alone, row by row.
-use Rattle.std.proofs.Common.{◌≡◌, ℕ, ℤ, pos, suc, ◌+◌, ◌<◌, ◌≤◌, Bool, true, false, List, [], ◌∷◌, ◌++◌, length, Option, Some, None, refl, subst, arith}
+use Rattle.std.proofs.Common.{ℕ, ◌+◌, ◌≤◌, Bool, true, false, List, [], ◌∷◌, ◌++◌, length, arith}
 use Rattle.std.specs.Prelude.{if◌then◌else◌}
-use Rattle.c_types.specs.declared.ty.FnTy.{FnTy}
-use Rattle.c_types.specs.declared.ty.Ty.{Ty, out-Ty}
-use Rattle.c_types.specs.declared.ty.Ty.TheOpen.{Ty-F}
+use Rattle.c_types.specs.declared.ty.Ty.{Ty}
 use Rattle.c_types.specs.declared.ty.Ty.TheVariants as ty
-use Rattle.c_types.specs.Kinds.{Outer}
 use Rattle.c_types.specs.Same.{same}
 use Rattle.core_ir.specs.declared.instr.Instr.{Instr}
-use Rattle.core_ir.specs.declared.instr.Instr.TheVariants.{Branch, Call, CallInd, Cast, Const, Fork, GetLocal, Jump, Load, PtrConst, SetLocal, StartArg, StartFn, Store, Touch}
+use Rattle.core_ir.specs.declared.instr.Instr.TheVariants.{Cast, Load, PtrConst, Store, Touch}
 use Rattle.core_ir.specs.Typed.{element_of}
-use Rattle.elab_expr.specs.Addresses.{Lvalue, assigned, copied_parts, loaded, lvalue_value, pointing, struct_assigned, updated, value_at, with_old_value}
-use Rattle.elab_expr.specs.Calls.{Listed, arguments, call_code, called, has_place, indirect_code, kept, placed}
-use Rattle.elab_expr.specs.Choices.{and_code, conditional_code, or_code, second_arm}
-use Rattle.elab_expr.specs.Made.{Code, Made, behind, beyond, combined, converted, extended, followed, nothing, single}
+use Rattle.elab_expr.specs.Addresses.{Lvalue, assigned, copied_parts, loaded, pointing, struct_assigned, updated, with_old_value}
+use Rattle.elab_expr.specs.Made.{Code, behind, beyond, combined, converted, extended, followed, nothing, single}
 use Rattle.elab_laws.specs.Fitting.{EachIs, IsFit, IsFitting, PartsFit}
 
 pub each_append : (P : Instr → Type 0) (c d : List Instr) → EachIs P c → EachIs P d → EachIs P (c ++ d)

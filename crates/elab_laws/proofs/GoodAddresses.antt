@@ -1,22 +1,21 @@
 -- The rows of addresses, of lvalues as values and of assignments: each is a part where its operands are.
-use Rattle.std.proofs.Common.{◌≡◌, inl, inr, ℕ, suc, ◌+◌, ◌*◌, ◌⊎◌, Bool, true, false, List, [], ◌∷◌, ◌++◌, length, Option, Some, None, refl, ap, sym, subst, ◌∙◌, arith, append_assoc, append-nil}
-use Rattle.std.specs.Prelude.{if◌then◌else◌}
+use Rattle.std.proofs.Common.{◌≡◌, inl, inr, ℕ, suc, ◌+◌, ◌*◌, List, [], ◌∷◌, ◌++◌, length, refl, sym, subst, ◌∙◌, arith, append_assoc, append-nil}
 use Rattle.c_types.specs.declared.ty.Ty.{Ty, out-Ty}
 use Rattle.c_types.specs.declared.ty.Ty.TheOpen.{Ty-F}
 use Rattle.c_types.specs.declared.ty.Ty.TheVariants as ty
 use Rattle.c_types.specs.Kinds.{Outer}
 use Rattle.c_types.specs.Same.{same}
 use Rattle.core_ir.specs.declared.instr.Instr.{Instr}
-use Rattle.core_ir.specs.declared.instr.Instr.TheVariants.{PtrAdd, PtrConst, Cast, Touch, Load, Store, SetLocal}
+use Rattle.core_ir.specs.declared.instr.Instr.TheVariants.{PtrConst, Cast, Touch, Load, Store}
 use Rattle.core_ir.specs.Flow.{IsAmong}
 use Rattle.core_ir.specs.Typed.{element_of}
 use Rattle.core_parts.specs.Pieces.{IsPart}
-use Rattle.core_parts.specs.Theorems.{AreAmong, PartLaws}
-use Rattle.elab_expr.specs.Addresses.{Lvalue, array_value, address_of, assigned, copied_made, copied_part, copied_parts, loaded, lvalue_value, pointing, restored_made, stored_made, struct_assigned, updated, value_at}
-use Rattle.elab_expr.specs.Made.{Code, Made, behind, extended, followed}
+use Rattle.core_parts.specs.Theorems.{PartLaws}
+use Rattle.elab_expr.specs.Addresses.{Lvalue, assigned, copied_part, copied_parts, loaded, lvalue_value, pointing, stored_made, struct_assigned, updated, value_at}
+use Rattle.elab_expr.specs.Made.{Code, Made, behind, extended}
 use Rattle.elab_laws.proofs.GoodRows.{ahead, among_left, among_right, either, extended_value, first_is}
-use Rattle.elab_laws.proofs.Lifted.{fewer, gives, loads, stores, append, uses}
-use Rattle.elab_laws.specs.Values.{IsGood, IsMade, IsValue, behind_made, outlines}
+use Rattle.elab_laws.proofs.Lifted.{fewer, gives, loads, stores, append}
+use Rattle.elab_laws.specs.Values.{IsGood, IsValue, behind_made, outlines}
 
 module _ (laws : PartLaws) where
   -- ---- lvalues as values
@@ -26,7 +25,7 @@ module _ (laws : PartLaws) where
       let y = x.address place register slot in
       let all = loads laws y.code place register y.register (y.result ∷ more) y.result x.root x.ty h (inl refl) in
       let less = fewer laws (y.code ++ Touch y.result x.root ∷ Load y.register y.result x.ty ∷ []) place register (y.register + 1) (y.register ∷ y.result ∷ more) (y.register ∷ more) all
-          (ahead y.register more (y.result ∷ more) (λ r is. inr is)) in
+      (ahead y.register more (y.result ∷ more) (λ r is. inr is)) in
       subst (λ c. IsPart (outlines c) place register (y.register + 1) (y.register ∷ more)) (sym (append_assoc y.code (Touch y.result x.root ∷ []) (Load y.register y.result x.ty ∷ []))) less
 
   pub pointing_value : (root target : Ty) (a : Code) (place register slot : ℕ) (more : List ℕ) → IsValue (a place register slot) place register more → IsValue (pointing root target a place register slot) place register more

@@ -1,11 +1,11 @@
 -- The rows of built-in calls: each is a part where its arguments are.
-use Rattle.std.proofs.Common.{◌≡◌, ◌≢◌, inl, inr, ℕ, ◌+◌, ◌⊎◌, List, [], ◌∷◌, ◌++◌, length, Option, Some, None, refl, ap, sym, subst, ◌∙◌, arith}
+use Rattle.std.proofs.Common.{◌≡◌, ◌≢◌, inl, ℕ, ◌+◌, [], ◌∷◌, ◌++◌, Some, None, refl, sym, subst}
 use Rattle.c_types.specs.declared.ty.Ty.TheVariants as ty
 use Rattle.c_typed.specs.declared.entity.BuiltIn.{BuiltIn}
 use Rattle.c_typed.specs.declared.entity.BuiltIn.TheVariants as built_in
 use Rattle.core_ir.specs.declared.instr.Instr.{Instr}
 use Rattle.core_ir.specs.declared.instr.Instr.TheVariants.{Free, Input, Join, Lock, Malloc, Print, Touch, Unlock}
-use Rattle.core_ir.specs.Instructions.{defined, outline_of, role_of, target, used}
+use Rattle.core_ir.specs.Instructions.{defined, role_of, target, used}
 use Rattle.core_parts.specs.Pieces.{IsPart}
 use Rattle.core_parts.specs.Theorems.{AreAmong, IsFree, PartLaws}
 use Rattle.elab_expr.specs.Calls.{Listed, built_in_made, extended_list, first_of, followed_list}
@@ -25,7 +25,7 @@ module _ (laws : PartLaws) (l : Listed) (r place register : ℕ) (is : l.results
   one_extended i free quiet defines known =
       subst (λ rs. IsPart (outlines (l.code ++ i l.register (first_of rs) ∷ [])) place register (l.register + 1) (l.register ∷ [])) (sym is)
       (fewer laws (l.code ++ i l.register r ∷ []) place register (l.register + 1) (l.register ∷ r ∷ []) (l.register ∷ []) (gives laws l.code (i l.register r) place register l.register (r ∷ []) part free quiet defines known)
-        (first_among l.register (r ∷ [])))
+      (first_among l.register (r ∷ [])))
 
   pub built_in_value : (b : BuiltIn) → b ≢ built_in.Spawn → IsValue (built_in_made b l) place register []
   built_in_value built_in.Spawn no_spawn = absurd (no_spawn refl)

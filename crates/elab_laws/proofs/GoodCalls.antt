@@ -1,19 +1,16 @@
 -- The rows of calls: each is a part where its arguments and its callee are.
-use Rattle.std.proofs.Common.{◌≡◌, ◌≢◌, inl, inr, ℕ, ◌+◌, ◌⊎◌, Bool, true, false, not, ◌&&◌, ◌||◌, List, [], ◌∷◌, ◌++◌, length, reverse, Option, Some, None, refl, ap, sym, subst, ◌∙◌, arith, append_assoc}
-use Rattle.std.specs.Prelude.{if◌then◌else◌, nat_eq}
+use Rattle.std.proofs.Common.{◌≡◌, inl, inr, ℕ, ◌+◌, true, false, List, [], ◌∷◌, ◌++◌, length, Option, Some, None, refl, sym, subst, append_assoc}
 use Rattle.c_types.specs.declared.ty.FnTy.{FnTy}
-use Rattle.c_types.specs.declared.ty.Ty.TheVariants as ty
 use Rattle.core_ir.specs.declared.instr.Instr.{Instr}
 use Rattle.core_ir.specs.declared.instr.Instr.TheVariants.{GetLocal, SetLocal, Call, CallInd, Fork, StartArg, StartFn}
-use Rattle.core_ir.specs.Flow.{Chain, IsAmong}
-use Rattle.core_ir.specs.Instructions.{defined, outline_of, role_of, target, used}
+use Rattle.core_ir.specs.Flow.{Chain}
 use Rattle.core_parts.specs.Pieces.{IsPart}
-use Rattle.core_parts.specs.Theorems.{AreAmong, IsFree, PartLaws}
-use Rattle.elab_expr.specs.Calls.{Listed, arguments, call_made, called, first_of, indirect_made, kept, second_of, spawned, with_argument, with_callee}
+use Rattle.core_parts.specs.Theorems.{PartLaws}
+use Rattle.elab_expr.specs.Calls.{Listed, arguments, call_made, first_of, indirect_made, kept, second_of, spawned}
 use Rattle.elab_expr.specs.Made.{Code, Made}
-use Rattle.elab_laws.proofs.GoodRows.{ahead, among_left, among_right, first_among}
-use Rattle.elab_laws.proofs.Lifted.{calls, end_outlines, fewer, gives, locks, outlines_append, starts, append, unlocks, uses}
-use Rattle.elab_laws.specs.Values.{AreGood, AreValues, EndsChain, IsGood, IsMade, IsNoNumber, IsValue, outlines}
+use Rattle.elab_laws.proofs.GoodRows.{among_left, among_right, first_among}
+use Rattle.elab_laws.proofs.Lifted.{calls, end_outlines, fewer, gives, outlines_append, starts, append, uses}
+use Rattle.elab_laws.specs.Values.{AreGood, AreValues, EndsChain, IsMade, IsNoNumber, IsValue, outlines}
 
 module _ (laws : PartLaws) where
   -- ---- arguments
@@ -52,7 +49,7 @@ module _ (laws : PartLaws) where
       let whole = l.code ++ x.code in
       let at_x = end_outlines l.code place in
       let moved = laws.chains.behind (outlines l.code) (outlines x.code) place x.result k
-          (subst (λ n. Chain (outlines x.code) n (n + length (outlines x.code)) x.result k) (sym at_x) h) in
+      (subst (λ n. Chain (outlines x.code) n (n + length (outlines x.code)) x.result k) (sym at_x) h) in
       subst (λ n. Chain (outlines whole) place n x.result k) (end_outlines whole place)
       (subst (λ o. Chain o place (place + length o) x.result k) (sym (outlines_append l.code x.code)) moved)
 

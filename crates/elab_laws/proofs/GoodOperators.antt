@@ -1,21 +1,20 @@
 -- The rows, as their laws name them.
-use Rattle.std.proofs.Common.{◌≡◌, ℕ, ℤ, pos, ◌+◌, Bool, true, false, List, [], ◌∷◌, ◌++◌, length, refl, arith}
+use Rattle.std.proofs.Common.{ℕ, ℤ, pos, ◌+◌, true, false, List, [], length, refl}
 use Rattle.c_types.specs.declared.ty.FnTy.{FnTy}
 use Rattle.core_ir.specs.declared.instr.Instr.TheVariants.{Binary, Const, Unary, PtrAdd}
 use Rattle.core_ir.specs.declared.operator.Operator.{Operator}
 use Rattle.core_ir.specs.declared.operator.Operator.TheVariants as operator
-use Rattle.core_ir.specs.Instructions.{outline_of}
 use Rattle.core_parts.specs.Theorems.{PartLaws}
-use Rattle.elab_expr.specs.Calls.{Listed, arguments, indirect_code, placed}
+use Rattle.elab_expr.specs.Calls.{arguments, indirect_code, placed}
 use Rattle.elab_expr.specs.Choices.{and_code, conditional_code, or_code, second_arm}
-use Rattle.elab_expr.specs.Made.{Code, Made, behind, beyond, single}
+use Rattle.elab_expr.specs.Made.{Code, behind, beyond}
 use Rattle.elab_expr.specs.Rows.{binary_code, number, plus_pointer, pointer_difference, pointer_minus, pointer_plus, unary_code}
 use Rattle.elab_laws.proofs.Callees.{is_placed}
 use Rattle.elab_laws.proofs.GoodCalls.{arguments_values, indirect_done, indirect_value}
 use Rattle.elab_laws.proofs.GoodChoices.{and_value, conditional_value, or_value}
 use Rattle.elab_laws.proofs.GoodRows.{both_among, combined_value, extended_value, single_value, swapped_among}
-use Rattle.elab_laws.specs.Theorems.{GivesAt, IsDone, Keeps, KeepsFirst}
-use Rattle.elab_laws.specs.Values.{AreGood, IsGood, IsValue}
+use Rattle.elab_laws.specs.Theorems.{IsDone, Keeps, KeepsFirst}
+use Rattle.elab_laws.specs.Values.{AreGood, IsGood}
 
 module _ (laws : PartLaws) where
   pub number_good : (v : ℤ) → IsGood (number v)

@@ -1,21 +1,16 @@
 -- The rows without branches: each is a part where its operands are.
-use Rattle.std.proofs.Common.{◌≡◌, inl, inr, ℕ, ℤ, pos, ◌+◌, ◌⊎◌, Bool, true, false, List, [], ◌∷◌, ◌++◌, length, map, Option, Some, None, refl, ap, sym, subst, ◌∙◌, ⊎_elim, arith}
+use Rattle.std.proofs.Common.{◌≡◌, inl, inr, ℕ, ◌+◌, Bool, true, false, List, [], ◌∷◌, ◌++◌, Some, None, refl, subst}
 use Rattle.std.specs.Prelude.{if◌then◌else◌}
 use Rattle.c_types.specs.declared.ty.Ty.{Ty}
-use Rattle.c_types.specs.declared.ty.Ty.TheVariants as ty
 use Rattle.c_types.specs.Same.{same}
 use Rattle.core_ir.specs.declared.instr.Instr.{Instr}
-use Rattle.core_ir.specs.declared.instr.Instr.TheVariants.{Binary, Unary, PtrAdd, PtrConst, Cast, Touch, Load, SetLocal}
-use Rattle.core_ir.specs.declared.operator.Operator.{Operator}
-use Rattle.core_ir.specs.declared.operator.Operator.TheVariants as operator
+use Rattle.core_ir.specs.declared.instr.Instr.TheVariants.{Cast}
 use Rattle.core_ir.specs.Flow.{IsAmong}
-use Rattle.core_ir.specs.Instructions.{defined, outline_of, role_of, target, used}
-use Rattle.core_ir.specs.Typed.{element_of}
-use Rattle.core_parts.specs.Pieces.{IsPart}
+use Rattle.core_ir.specs.Instructions.{defined, role_of, target, used}
 use Rattle.core_parts.specs.Theorems.{AreAmong, IsFree, PartLaws}
-use Rattle.elab_expr.specs.Made.{Code, Made, behind, combined, combined_made, converted, extended, extended_made, followed, followed_made, single}
+use Rattle.elab_expr.specs.Made.{Code, Made, combined_made, converted, extended, extended_made, followed_made, single}
 use Rattle.elab_laws.proofs.Lifted.{fewer, gives, append, uses}
-use Rattle.elab_laws.specs.Values.{IsGood, IsMade, IsValue, behind_made, outlines}
+use Rattle.elab_laws.specs.Values.{IsMade, IsValue, behind_made}
 
 -- ---- lists of registers
 

@@ -1,14 +1,13 @@
 -- The laws of parts and pieces, over instructions.
-use Rattle.std.proofs.Common.{◌≡◌, ℕ, ◌+◌, ◌⊎◌, Bool, List, [], ◌∷◌, ◌++◌, length, map, Option, Some, None, refl, ap, sym, subst, ◌∙◌, arith}
+use Rattle.std.proofs.Common.{◌≡◌, ℕ, ◌+◌, List, [], ◌∷◌, ◌++◌, length, Option, Some, None, ap, sym, subst, ◌∙◌}
 use Rattle.std.proofs.lemmas.List.{length-map, map-append}
 use Rattle.core_ir.specs.declared.instr.Instr.{Instr}
-use Rattle.core_ir.specs.declared.instr.Instr.TheVariants.{Touch, Load, Store, Jump, Branch, CallInd, Fork, StartArg, StartFn, Lock, Unlock, SetLocal, GetLocal, Const}
+use Rattle.core_ir.specs.declared.instr.Instr.TheVariants.{Touch, Load, Store, Jump, Branch, CallInd, Fork, StartArg, StartFn, Lock, Unlock}
 use Rattle.core_ir.specs.Flow.{Chain, IsAmong}
 use Rattle.core_ir.specs.Instructions.{defined, outline_of, role_of, target, used}
-use Rattle.core_ir.specs.Outline.{Outline}
 use Rattle.c_types.specs.declared.ty.FnTy.{FnTy}
 use Rattle.c_types.specs.declared.ty.Ty.{Ty}
-use Rattle.core_parts.specs.Pieces.{Each, IsOutside, IsPart, IsPiece, IsSection, Leads, end_of}
+use Rattle.core_parts.specs.Pieces.{Each, IsOutside, IsPart, IsSection, Leads, end_of}
 use Rattle.core_parts.specs.Places.{Forks}
 use Rattle.core_parts.specs.Theorems.{AreAmong, IsFree, PartLaws}
 use Rattle.elab_laws.specs.Values.{outlines}
@@ -88,10 +87,10 @@ module _ (laws : PartLaws) where
       let end : start + length c + length d ≡ end_of (outlines d) (end_of (outlines c) start) = sym (end_outlines d (end_of (outlines c) start) ∙ ap (λ n. n + length d) (end_outlines c start)) in
       subst (λ o. IsSection o start a e all) (sym (outlines_append c d))
       (laws.pieces.sections (outlines c) (outlines d) start a b e exits more all hc (subst (λ n. IsSection (outlines d) n b e more) middle hd)
-        (subst (λ n. Each (IsOutside n (end_of (outlines d) (end_of (outlines c) start))) exits) middle (subst (λ n. Each (IsOutside (start + length c) n) exits) end out))
-        (subst (λ n. Each (IsOutside start n) more) middle behind)
-        (subst (λ n. Each (Leads start n all) exits) end lead)
-        (subst (λ n. Each (Leads start n all) more) end lead_more))
+      (subst (λ n. Each (IsOutside n (end_of (outlines d) (end_of (outlines c) start))) exits) middle (subst (λ n. Each (IsOutside (start + length c) n) exits) end out))
+      (subst (λ n. Each (IsOutside start n) more) middle behind)
+      (subst (λ n. Each (Leads start n all) exits) end lead)
+      (subst (λ n. Each (Leads start n all) more) end lead_more))
 
   -- the same, where the places between and behind are known
   pub sections_at : (c d : List Instr) (start middle last a b e : ℕ) (exits more all : List ℕ) → start + length c ≡ middle → middle + length d ≡ last → IsSection (outlines c) start a b exits → IsSection (outlines d) middle b e more

@@ -1,5 +1,5 @@
 -- Registers that hold no thread's number.
-use Rattle.std.proofs.Common.{◌≡◌, ◌≢◌, inl, inr, ℕ, ◌+◌, ◌-◌, ◌<◌, ◌≤◌, ◌⊎◌, List, [], ◌∷◌, ◌++◌, length, Option, Some, None, refl, ap, sym, subst, ◌∙◌, ⊎_elim, arith}
+use Rattle.std.proofs.Common.{◌≡◌, ◌≢◌, ℕ, ◌+◌, ◌-◌, ◌<◌, ◌≤◌, List, [], ◌∷◌, ◌++◌, length, Some, refl, ap, sym, subst, ◌∙◌, ⊎_elim, arith}
 use Rattle.std.proofs.lemmas.Bool.{cases_eq, cases_lt}
 use Rattle.std.proofs.lemmas.Option.{same_Some}
 use Rattle.std.specs.Prelude.{slice_get}
@@ -9,7 +9,6 @@ use Rattle.core_ir.specs.Flow.{Stands}
 use Rattle.core_ir.specs.Instructions.{defined, outline_of, role_of}
 use Rattle.core_ir.specs.Outline.{Outline}
 use Rattle.core_parts.specs.Pieces.{IsOwned, IsPart, end_of}
-use Rattle.core_parts.specs.Places.{Forks}
 use Rattle.core_parts.specs.Theorems.{PartLaws}
 use Rattle.elab_laws.proofs.Lifted.{end_outlines, outlines_append}
 use Rattle.elab_laws.specs.Values.{IsNoNumber, outlines}
@@ -19,9 +18,9 @@ once : (c : List Outline) (start from to k j r : ℕ) (i h : Outline) → IsOwne
 once c start from to k j r i h owned at_k at_j is_k is_j = ⊎_elim
     (λ (e : k ≡ j). e)
     (λ (ne : k ≡ j → ⊥). ⊎_elim
-        (λ (lt : k < j). let z : r < r = owned.rising k j r r i h at_k at_j is_k is_j lt in absurd (omega arith))
-        (λ (le : j ≤ k). let z : r < r = owned.rising j k r r h i at_j at_k is_j is_k (omega arith) in absurd (omega arith))
-        (cases_lt k j))
+    (λ (lt : k < j). let z : r < r = owned.rising k j r r i h at_k at_j is_k is_j lt in absurd (omega arith))
+    (λ (le : j ≤ k). let z : r < r = owned.rising j k r r h i at_j at_k is_j is_k (omega arith) in absurd (omega arith))
+    (cases_lt k j))
     (cases_eq k j)
 
 module _ (laws : PartLaws) where
@@ -31,7 +30,7 @@ module _ (laws : PartLaws) where
       ⊎_elim
       (λ (x : Stands (outlines c) place k forks.instruction). hc k (record { instruction = forks.instruction; there = x; is = forks.is; defines = forks.defines }))
       (λ (x : Stands (outlines d) (end_of (outlines c) place) k forks.instruction).
-          hd k (record { instruction = forks.instruction; there = subst (λ n. Stands (outlines d) n k forks.instruction) (end_outlines c place) x; is = forks.is; defines = forks.defines }))
+      hd k (record { instruction = forks.instruction; there = subst (λ n. Stands (outlines d) n k forks.instruction) (end_outlines c place) x; is = forks.is; defines = forks.defines }))
       (laws.composition.split (outlines c) (outlines d) place k forks.instruction there)
 
   -- a part defines only its own registers
@@ -47,7 +46,7 @@ module _ (laws : PartLaws) where
       let zero : e - e ≡ 0 = omega arith in
       let alone : Stands (outline_of i ∷ []) e e (outline_of i) = record { from = omega arith; there = subst (λ n. slice_get (outline_of i ∷ []) n ≡ Some (outline_of i)) (sym zero) refl } in
       let mine : Stands (outlines (c ++ i ∷ [])) place e (outline_of i) =
-          subst (λ o. Stands o place e (outline_of i)) (sym (outlines_append c (i ∷ []))) (laws.composition.in_back (outlines c) (outline_of i ∷ []) place e (outline_of i) alone) in
+      subst (λ o. Stands o place e (outline_of i)) (sym (outlines_append c (i ∷ []))) (laws.composition.in_back (outlines c) (outline_of i ∷ []) place e (outline_of i) alone) in
       let same : k ≡ e = once (outlines (c ++ i ∷ [])) place from to k e r forks.instruction (outline_of i) h.is_section.owned forks.there mine forks.defines is in
       let there : Stands (outlines (c ++ i ∷ [])) place e forks.instruction = subst (λ n. Stands (outlines (c ++ i ∷ [])) place n forks.instruction) same forks.there in
       let one : outline_of i ≡ forks.instruction = same_Some (outline_of i) forks.instruction (sym mine.there ∙ there.there) in

@@ -1,5 +1,5 @@
 -- A load behind its touch, as the rows group them.
-use Rattle.std.proofs.Common.{◌≡◌, ℕ, List, [], ◌∷◌, ◌++◌, refl, sym, subst, ◌∙◌, Some, None, append_assoc}
+use Rattle.std.proofs.Common.{List, [], ◌∷◌, refl, sym, subst, append_assoc}
 use Rattle.std.proofs.lemmas.Option.{same_Some}
 use Rattle.c_types.specs.declared.structs.StructDef.{StructDef}
 use Rattle.core_ir.specs.declared.instr.Instr.TheVariants.{Load, Touch}

@@ -15,9 +15,9 @@ use Rattle.core_ir.specs.Parts as parts
 use Rattle.core_ir.specs.Parts.{HasPart}
 use Rattle.core_ir.specs.Typed.{element_of}
 use Rattle.core_ir.specs.Valid.{TouchesFit, access_type, touch_type}
-use Rattle.elab_expr.specs.Addresses.{Lvalue, assigned, copied_part, copied_parts, loaded, pointing, struct_assigned, updated}
+use Rattle.elab_expr.specs.Addresses.{Lvalue, assigned, copied_parts, loaded, pointing, struct_assigned, updated}
 use Rattle.elab_expr.specs.Calls.{Listed, arguments, built_in_code, built_in_made, call_code, called, first_of, has_place, indirect_code, kept, placed, second_of, with_callee}
-use Rattle.elab_expr.specs.Choices.{and_code, arms, conditional_code, kept_in, or_code, or_lines, second_arm, sets, tested, truth_lines}
+use Rattle.elab_expr.specs.Choices.{and_code, arms, conditional_code, kept_in, or_code, or_lines, second_arm, tested, truth_lines}
 use Rattle.elab_expr.specs.Made.{Code, Made, behind, beyond, combined, converted, extended, followed, single}
 use Rattle.elab_laws.specs.Touching.{AreTouched, AreTouching, HasParts, IsTouched, IsTouching, MayPrecede, Opens}
 
@@ -71,8 +71,10 @@ module _ (defs : List StructDef) where
   -- a touch and its access
   accessed : (p : ℕ) (root t : Ty) (x : Instr) (d : List Instr) → access_type x ≡ Some t → HasPart defs root t → touch_type x ≡ None → IsTouched defs d → IsTouched defs (Touch p root ∷ x ∷ d)
   accessed p root t x d is has none h = record {
-    each = (λ whole part touch access. let a : root ≡ whole = same_Some root whole touch in let b : t ≡ part = same_Some t part (sym is ∙ access) in subst (λ w. HasPart defs w part) a (subst (λ v. HasPart defs root v) b has),
-      (opens_next x d h.opens, h.each));
+    each = (
+      λ whole part touch access. let a : root ≡ whole = same_Some root whole touch in let b : t ≡ part = same_Some t part (sym is ∙ access) in subst (λ w. HasPart defs w part) a (subst (λ v. HasPart defs root v) b has),
+      (opens_next x d h.opens, h.each),
+    );
     opens = refl;
   }
 
@@ -178,8 +180,8 @@ module _ (defs : List StructDef) where
       let s = x.slot in
       append (tested t f) (arms x y e) (tested_touched t f (hc place register slot))
       (append (kept_in x s ++ Jump e ∷ [] ++ kept_in y s) (GetLocal y.register s ∷ [])
-        (append (kept_in x s ++ Jump e ∷ []) (kept_in y s) (append (kept_in x s) (Jump e ∷ []) (kept_touched x s (ha p t.register t.slot)) (alone (Jump e) refl)) (kept_touched y s (hb (p + length x.code + 2) x.register (x.slot + 1))))
-        (alone (GetLocal y.register s) refl))
+      (append (kept_in x s ++ Jump e ∷ []) (kept_in y s) (append (kept_in x s) (Jump e ∷ []) (kept_touched x s (ha p t.register t.slot)) (alone (Jump e) refl)) (kept_touched y s (hb (p + length x.code + 2) x.register (x.slot + 1))))
+      (alone (GetLocal y.register s) refl))
 
   -- ---- calls
 

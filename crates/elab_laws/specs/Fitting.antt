@@ -1,6 +1,6 @@
 -- What is asked of each instruction alone: its numbers and types, and the slot that it names. A row makes such code where
 -- its operands do.
-use Rattle.std.specs.Prelude.{ℕ, ◌+◌, ◌<◌, ◌≤◌, List, [], ◌∷◌, IfSome}
+use Rattle.std.specs.Prelude.{ℕ, ◌<◌, ◌≤◌, List, [], ◌∷◌, IfSome}
 use Rattle.c_types.specs.declared.ty.Ty.{Ty}
 use Rattle.core_ir.specs.declared.instr.Instr.{Instr}
 use Rattle.core_ir.specs.declared.instr.Instr.TheVariants.{AddrG, AddrL, AddrF, Binary, Unary, Cast, Touch, Load, Store, Call, CallInd}

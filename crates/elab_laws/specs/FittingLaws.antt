@@ -13,7 +13,7 @@ use Rattle.elab_expr.specs.Addresses.{Lvalue, assigned, loaded, pointing, struct
 use Rattle.elab_expr.specs.Calls.{built_in_code, call_code, indirect_code}
 use Rattle.elab_expr.specs.Choices.{and_code, conditional_code, or_code}
 use Rattle.elab_expr.specs.Made.{Code, combined, converted, extended, followed, nothing, single}
-use Rattle.elab_laws.specs.Fitting.{AreFitting, IsFit, IsFitting, IsUnasked, PartsFit}
+use Rattle.elab_laws.specs.Fitting.{AreFitting, IsFit, IsFitting, PartsFit}
 
 -- P asks nothing of most kinds of instructions
 pub record FittingRows (P : Instr → Type 0) (slots : ℕ) : Type 0 where

@@ -13,7 +13,7 @@ use Rattle.core_parts.specs.Pieces.{IsPart}
 use Rattle.elab_expr.specs.Addresses.{Lvalue, address_of, array_value, assigned, global_address, loaded, local_address, lvalue_value, member_address, slot_assigned, struct_assigned, updated}
 use Rattle.elab_expr.specs.Calls.{Listed, arguments, built_in_made, call_code, indirect_code, spawned}
 use Rattle.elab_expr.specs.Choices.{and_code, conditional_code, or_code}
-use Rattle.elab_expr.specs.Made.{Code, Made, converted}
+use Rattle.elab_expr.specs.Made.{Code, converted}
 use Rattle.elab_expr.specs.Rows.{binary_code, function_name, number, plus_pointer, pointer_difference, pointer_minus, pointer_plus, slot_value, string, unary_code}
 use Rattle.elab_laws.specs.Values.{AreGood, AreValues, IsGood, IsMade, IsNoNumber, IsValue, outlines}
 

@@ -1,5 +1,5 @@
 -- What is said of code that is made from a place and a register: it is a part of a full expression.
-use Rattle.std.specs.Prelude.{◌≡◌, ℕ, ◌+◌, List, [], ◌∷◌, length, map}
+use Rattle.std.specs.Prelude.{ℕ, ◌+◌, List, [], ◌∷◌, length, map}
 use Rattle.core_ir.specs.declared.instr.Instr.{Instr}
 use Rattle.core_ir.specs.Flow.{Chain}
 use Rattle.core_ir.specs.Instructions.{outline_of}
