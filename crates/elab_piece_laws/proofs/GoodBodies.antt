@@ -1,22 +1,17 @@
 -- Returns, and the body of a function.
-use Rattle.std.proofs.Common.{◌≡◌, inl, inr, ℕ, suc, ◌+◌, ◌≤◌, ◌⊎◌, Bool, true, false, List, [], ◌∷◌, ◌++◌, length, map, Option, Some, None, refl, ap, sym, subst, ◌∙◌, arith, append_assoc, append-nil}
-use Rattle.std.proofs.lemmas.List.{map-append}
-use Rattle.core_ir.specs.declared.instr.Instr.{Instr}
+use Rattle.std.proofs.Common.{◌≡◌, inl, ℕ, ◌+◌, Bool, true, false, List, [], ◌∷◌, ◌++◌, length, Some, None, refl, ap, sym, subst, ◌∙◌, arith, append_assoc}
 use Rattle.core_ir.specs.declared.instr.Instr.TheVariants.{Enter, Leave, Return}
-use Rattle.core_ir.specs.Flow.{IsAmong}
 use Rattle.core_ir.specs.Instructions.{outline_of}
 use Rattle.core_ir.specs.Order.{IsWellFormed}
-use Rattle.core_parts.specs.Outlines.{acting}
 use Rattle.core_parts.specs.Pieces.{IsPart, IsPiece}
-use Rattle.core_parts.specs.Theorems.{AreNumbered, PartLaws}
+use Rattle.core_parts.specs.Theorems.{PartLaws}
 use Rattle.elab_expr.specs.Made.{Code, Made}
-use Rattle.elab.specs.Lines.{Breaks, Continues, Does, Line, Piece, PieceCode, joined, led}
-use Rattle.elab.specs.Statements.{does, leaving, returned, returned_nothing}
-use Rattle.elab.specs.Functions.{body_code, body_of, entering}
+use Rattle.elab.specs.Lines.{Breaks, Continues, Does, Line, led}
+use Rattle.elab.specs.Statements.{leaving, returned, returned_nothing}
 use Rattle.elab_piece_laws.proofs.GoodStatements.{closed_lines, joined_good}
-use Rattle.elab_piece_laws.proofs.LiftedPieces.{led_append, led_does, outlines_append, weaker}
+use Rattle.elab_piece_laws.proofs.LiftedPieces.{led_append, outlines_append, weaker}
 use Rattle.elab_piece_laws.specs.Lines.{AreGoodLines, IsClosed, IsGoodPiece, IsTest, outlines}
-use Rattle.elab_piece_laws.specs.Theorems.{BodyRow, body_start}
+use Rattle.elab_piece_laws.specs.Theorems.{BodyRow}
 
 -- where nothing is open, it doesn't matter where `break` and `continue` lead
 led_closed : (ls : List Line) (a b c d : ℕ) → IsClosed ls → led a b ls ≡ led c d ls
@@ -54,7 +49,7 @@ module _ (laws : PartLaws) where
       let same : led place place ls ≡ led 0 0 ls = led_closed ls place place 0 0 closed in
       subst (λ c. IsPiece frame (outlines c) place []) same
       (weaker laws frame (led place place ls) place (place + length (led place place ls)) (place ∷ place ∷ []) [] refl (h place place (inl (omega arith)) (inl (omega arith)))
-        (inl (omega arith, omega arith), (inl (omega arith, omega arith), tt)))
+      (inl (omega arith, omega arith), (inl (omega arith, omega arith), tt)))
 
   pub body_good : (frame : Bool) → BodyRow frame
   body_good true copies statements slot registers slots hc hs closed numbered =
@@ -65,7 +60,7 @@ module _ (laws : PartLaws) where
       let all = laws.bodies.framed (outlines (led 0 0 inner)) registers slots piece numbered in
       let end = Does Leave ∷ Does (Return None) ∷ [] in
       let shape : outlines (led 0 0 (x.lines ++ (y.lines ++ end))) ≡ outlines (led 0 0 inner) ++ outlines (led 0 0 end) =
-          ap (λ l. outlines (led 0 0 l)) (sym (append_assoc x.lines y.lines end)) ∙ ap outlines (led_append 0 0 inner end) ∙ outlines_append (led 0 0 inner) (led 0 0 end) in
+      ap (λ l. outlines (led 0 0 l)) (sym (append_assoc x.lines y.lines end)) ∙ ap outlines (led_append 0 0 inner end) ∙ outlines_append (led 0 0 inner) (led 0 0 end) in
       subst (IsWellFormed registers slots true) (ap (λ o. outline_of Enter ∷ o) (sym shape)) all
   body_good false copies statements slot registers slots hc hs closed numbered =
       let x = copies 0 slot in
@@ -75,5 +70,5 @@ module _ (laws : PartLaws) where
       let all = laws.bodies.frameless (outlines (led 0 0 inner)) registers slots piece numbered in
       let end = Does (Return None) ∷ [] in
       let shape : outlines (led 0 0 (x.lines ++ (y.lines ++ end))) ≡ outlines (led 0 0 inner) ++ outlines (led 0 0 end) =
-          ap (λ l. outlines (led 0 0 l)) (sym (append_assoc x.lines y.lines end)) ∙ ap outlines (led_append 0 0 inner end) ∙ outlines_append (led 0 0 inner) (led 0 0 end) in
+      ap (λ l. outlines (led 0 0 l)) (sym (append_assoc x.lines y.lines end)) ∙ ap outlines (led_append 0 0 inner end) ∙ outlines_append (led 0 0 inner) (led 0 0 end) in
       subst (IsWellFormed registers slots false) (sym shape) all

@@ -1,15 +1,13 @@
 -- The rows of statements: each is a piece where its parts are.
-use Rattle.std.proofs.Common.{◌≡◌, inl, inr, ℕ, suc, ◌+◌, ◌≤◌, ◌⊎◌, Bool, true, false, List, [], ◌∷◌, ◌++◌, length, map, Option, Some, None, refl, ap, sym, subst, ◌∙◌, ⊎_elim, arith, length-append, append_assoc}
+use Rattle.std.proofs.Common.{◌≡◌, inl, inr, ℕ, ◌+◌, ◌≤◌, Bool, List, [], ◌∷◌, ◌++◌, length, Option, Some, None, refl, ap, sym, subst, ◌∙◌, arith, length-append, append_assoc}
 use Rattle.std.specs.Option.{option_map}
 use Rattle.core_ir.specs.declared.instr.Instr.{Instr}
-use Rattle.core_ir.specs.declared.instr.Instr.TheVariants.{Branch, Jump, Leave, Return}
-use Rattle.core_ir.specs.Flow.{IsAmong}
-use Rattle.core_ir.specs.Instructions.{outline_of}
+use Rattle.core_ir.specs.declared.instr.Instr.TheVariants.{Jump}
 use Rattle.core_parts.specs.Pieces.{Each, IsOutside, IsPart, IsPiece, Leads}
 use Rattle.core_parts.specs.Theorems.{PartLaws}
 use Rattle.elab_expr.specs.Choices.{tested}
 use Rattle.elab_expr.specs.Made.{Code, Made}
-use Rattle.elab.specs.Lines.{Breaks, Continues, Does, Line, Piece, PieceCode, all_full, all_joined, full, joined, led, no_lines, one_line}
+use Rattle.elab.specs.Lines.{Breaks, Continues, Does, Line, PieceCode, all_full, all_joined, full, joined, led, no_lines, one_line}
 use Rattle.elab.specs.Statements.{branch_lines, do_code, does, guarded, if_by, if_code, if_else_code, loop_code, otherwise, test_length, test_lines, test_slot, while_code}
 use Rattle.elab_piece_laws.proofs.LiftedPieces.{does_length, jump_piece, led_append, led_does, led_length, narrower, narrower_front, pieces_at, tested_length, tested_piece, weaker}
 use Rattle.elab_piece_laws.specs.Lines.{AreFull, AreGoodLines, AreGoodPieces, IfFull, IsFull, IsGoodPiece, IsTest, outlines}
@@ -51,7 +49,7 @@ module _ (laws : PartLaws) (frame : Bool) where
       let cy = hy b k (subst (λ n. IsOutside middle n b) same (back b hb)) (subst (λ n. IsOutside middle n k) same (back k hk)) in
       subst (λ d. IsPiece frame (outlines d) place (b ∷ k ∷ [])) (sym (led_append b k xs ys))
       (pieces_at laws frame (led b k xs) (led b k ys) place middle last (b ∷ k ∷ []) (b ∷ k ∷ []) (b ∷ k ∷ []) (omega arith) (omega arith) cx cy
-        (back b hb, (back k hk, tt)) (front b hb, (front k hk, tt)) (both place last b k) (both place last b k))
+      (back b hb, (back k hk, tt)) (front b hb, (front k hk, tt)) (both place last b k) (both place last b k))
 
   pub joined_good : (a b : PieceCode) → IsGoodPiece frame a → IsGoodPiece frame b → IsGoodPiece frame (joined a b)
   joined_good a b ha hb place slot =
@@ -85,8 +83,8 @@ module _ (laws : PartLaws) (frame : Bool) where
       let front : (l : ℕ) → IsOutside place e l → IsOutside place p l = λ l h. narrower place p e l (omega arith) h in
       let back : (l : ℕ) → IsOutside place e l → IsOutside p e l = λ l h. narrower_front place p e l (omega arith) h in
       let all = pieces_at laws frame (tested t e) (led b k x.lines) place p e (e ∷ []) (b ∷ k ∷ []) (b ∷ k ∷ []) (omega arith) (omega arith)
-          (tested_piece laws frame t place 0 e (hc place slot) (inr (omega arith))) (ha p t.slot b k (back b fb) (back k fk))
-          (inr (omega arith), tt) (front b fb, (front k fk, tt)) (inl (omega arith, omega arith), tt) (both place e b k) in
+      (tested_piece laws frame t place 0 e (hc place slot) (inr (omega arith))) (ha p t.slot b k (back b fb) (back k fk))
+      (inr (omega arith), tt) (front b fb, (front k fk, tt)) (inl (omega arith, omega arith), tt) (both place e b k) in
       subst (λ d. IsPiece frame (outlines d) place (b ∷ k ∷ [])) (sym (led_append b k (does (tested t e)) x.lines ∙ ap (λ d. d ++ led b k x.lines) (led_does b k (tested t e)))) all
 
   pub if_else_good : (c : Code) (a o : PieceCode) → IsTest c → IsGoodPiece frame a → IsGoodPiece frame o → IsGoodPiece frame (if_else_code c a o)
@@ -109,24 +107,24 @@ module _ (laws : PartLaws) (frame : Bool) where
       let fb = subst (λ n. IsOutside place n b) same hb in
       let fk = subst (λ n. IsOutside place n k) same hk in
       let within : (from to l : ℕ) → place ≤ from → to ≤ e → IsOutside place e l → IsOutside from to l =
-          λ from to l low high h. narrower_front place from to l low (narrower place to e l high h) in
+      λ from to l low high h. narrower_front place from to l low (narrower place to e l high h) in
       let h1 = pieces_at laws frame (tested t f) (led b k x.lines) place p j (f ∷ []) (b ∷ k ∷ []) (f ∷ b ∷ k ∷ []) (omega arith) (omega arith)
-          (tested_piece laws frame t place 0 f (hc place slot) (inr (omega arith))) (ha p t.slot b k (within p j b (omega arith) (omega arith) fb) (within p j k (omega arith) (omega arith) fk))
-          (inr (omega arith), tt) (within place p b (omega arith) (omega arith) fb, (within place p k (omega arith) (omega arith) fk, tt)) (inr (inl refl), tt) (inr (inr (inl refl)), (inr (inr (inr (inl refl))), tt)) in
+      (tested_piece laws frame t place 0 f (hc place slot) (inr (omega arith))) (ha p t.slot b k (within p j b (omega arith) (omega arith) fb) (within p j k (omega arith) (omega arith) fk))
+      (inr (omega arith), tt) (within place p b (omega arith) (omega arith) fb, (within place p k (omega arith) (omega arith) fk, tt)) (inr (inl refl), tt) (inr (inr (inl refl)), (inr (inr (inr (inl refl))), tt)) in
       let l1 = length-append (tested t f) (led b k x.lines) in
       let h2 = pieces_at laws frame (tested t f ++ led b k x.lines) (Jump e ∷ []) place j f (f ∷ b ∷ k ∷ []) (e ∷ []) (e ∷ b ∷ k ∷ []) (omega arith) refl h1 (jump_piece laws frame j e (inr (omega arith)))
-          (inr (omega arith), (within j f b (omega arith) (omega arith) fb, (within j f k (omega arith) (omega arith) fk, tt))) (inr (omega arith), tt)
-          (inl (omega arith, omega arith), (inr (inr (inl refl)), (inr (inr (inr (inl refl))), tt))) (inr (inl refl), tt) in
+      (inr (omega arith), (within j f b (omega arith) (omega arith) fb, (within j f k (omega arith) (omega arith) fk, tt))) (inr (omega arith), tt)
+      (inl (omega arith, omega arith), (inr (inr (inl refl)), (inr (inr (inr (inl refl))), tt))) (inr (inl refl), tt) in
       let l2 = length-append (tested t f ++ led b k x.lines) (Jump e ∷ []) in
       let all = pieces_at laws frame (tested t f ++ led b k x.lines ++ Jump e ∷ []) (led b k y.lines) place f e (e ∷ b ∷ k ∷ []) (b ∷ k ∷ []) (b ∷ k ∷ []) (omega arith) (omega arith) h2
-          (ho f x.slot b k (within f e b (omega arith) (omega arith) fb) (within f e k (omega arith) (omega arith) fk))
-          (inr (omega arith), (within f e b (omega arith) (omega arith) fb, (within f e k (omega arith) (omega arith) fk, tt))) (within place f b (omega arith) (omega arith) fb, (within place f k (omega arith) (omega arith) fk, tt))
-          (inl (omega arith, omega arith), (inr (inl refl), (inr (inr (inl refl)), tt))) (both place e b k) in
+      (ho f x.slot b k (within f e b (omega arith) (omega arith) fb) (within f e k (omega arith) (omega arith) fk))
+      (inr (omega arith), (within f e b (omega arith) (omega arith) fb, (within f e k (omega arith) (omega arith) fk, tt))) (within place f b (omega arith) (omega arith) fb, (within place f k (omega arith) (omega arith) fk, tt))
+      (inl (omega arith, omega arith), (inr (inl refl), (inr (inr (inl refl)), tt))) (both place e b k) in
       let shape : led b k (does (tested t f) ++ branch_lines x y e) ≡ tested t f ++ led b k x.lines ++ Jump e ∷ [] ++ led b k y.lines =
-          led_append b k (does (tested t f)) (branch_lines x y e) ∙ ap (λ d. d ++ led b k (branch_lines x y e)) (led_does b k (tested t f))
-          ∙ ap (λ d. tested t f ++ d) (led_append b k (x.lines ++ Does (Jump e) ∷ []) y.lines ∙ ap (λ d. d ++ led b k y.lines) (led_append b k x.lines (Does (Jump e) ∷ [])))
-          ∙ sym (append_assoc (tested t f) (led b k x.lines ++ Jump e ∷ []) (led b k y.lines))
-          ∙ ap (λ d. d ++ led b k y.lines) (sym (append_assoc (tested t f) (led b k x.lines) (Jump e ∷ []))) in
+      led_append b k (does (tested t f)) (branch_lines x y e) ∙ ap (λ d. d ++ led b k (branch_lines x y e)) (led_does b k (tested t f))
+      ∙ ap (λ d. tested t f ++ d) (led_append b k (x.lines ++ Does (Jump e) ∷ []) y.lines ∙ ap (λ d. d ++ led b k y.lines) (led_append b k x.lines (Does (Jump e) ∷ [])))
+      ∙ sym (append_assoc (tested t f) (led b k x.lines ++ Jump e ∷ []) (led b k y.lines))
+      ∙ ap (λ d. d ++ led b k y.lines) (sym (append_assoc (tested t f) (led b k x.lines) (Jump e ∷ []))) in
       subst (λ d. IsPiece frame (outlines d) place (b ∷ k ∷ [])) (sym shape) all
 
   -- ---- loops
@@ -141,11 +139,11 @@ module _ (laws : PartLaws) (frame : Bool) where
       let lt = tested_length t e in
       let lx = led_length e place x.lines in
       let h1 = pieces_at laws frame (tested t e) (led e place x.lines) place p j (e ∷ []) (e ∷ place ∷ []) (e ∷ []) (omega arith) (omega arith)
-          (tested_piece laws frame t place 0 e (hc place slot) (inr (omega arith))) (ha p t.slot e place (inr (omega arith)) (inl (omega arith)))
-          (inr (omega arith), tt) (inr (omega arith), (inl (omega arith), tt)) (inr (inl refl), tt) (inr (inl refl), (inl (omega arith, omega arith), tt)) in
+      (tested_piece laws frame t place 0 e (hc place slot) (inr (omega arith))) (ha p t.slot e place (inr (omega arith)) (inl (omega arith)))
+      (inr (omega arith), tt) (inr (omega arith), (inl (omega arith), tt)) (inr (inl refl), tt) (inr (inl refl), (inl (omega arith, omega arith), tt)) in
       let l1 = length-append (tested t e) (led e place x.lines) in
       let all = pieces_at laws frame (tested t e ++ led e place x.lines) (Jump place ∷ []) place j e (e ∷ []) (place ∷ []) [] (omega arith) refl h1 (jump_piece laws frame j place (inl (omega arith)))
-          (inr (omega arith), tt) (inl (omega arith), tt) (inl (omega arith, omega arith), tt) (inl (omega arith, omega arith), tt) in
+      (inr (omega arith), tt) (inl (omega arith), tt) (inl (omega arith, omega arith), tt) (inl (omega arith, omega arith), tt) in
       closed_lines (tested t e ++ led e place x.lines ++ Jump place ∷ []) place all
 
   pub do_good : (a : PieceCode) (c : Code) → IsGoodPiece frame a → IsTest c → IsGoodPiece frame (do_code a c)
@@ -158,11 +156,11 @@ module _ (laws : PartLaws) (frame : Bool) where
       let lt = tested_length t e in
       let lx = led_length e p x.lines in
       let h1 = pieces_at laws frame (led e p x.lines) (tested t e) place p j (e ∷ p ∷ []) (e ∷ []) (e ∷ []) (omega arith) (omega arith)
-          (ha place slot e p (inr (omega arith)) (inr (omega arith))) (tested_piece laws frame t p 0 e (hc p x.slot) (inr (omega arith)))
-          (inr (omega arith), (inl (omega arith), tt)) (inr (omega arith), tt) (inr (inl refl), (inl (omega arith, omega arith), tt)) (inr (inl refl), tt) in
+      (ha place slot e p (inr (omega arith)) (inr (omega arith))) (tested_piece laws frame t p 0 e (hc p x.slot) (inr (omega arith)))
+      (inr (omega arith), (inl (omega arith), tt)) (inr (omega arith), tt) (inr (inl refl), (inl (omega arith, omega arith), tt)) (inr (inl refl), tt) in
       let l1 = length-append (led e p x.lines) (tested t e) in
       let all = pieces_at laws frame (led e p x.lines ++ tested t e) (Jump place ∷ []) place j e (e ∷ []) (place ∷ []) [] (omega arith) (omega arith) h1 (jump_piece laws frame j place (inl (omega arith)))
-          (inr (omega arith), tt) (inl (omega arith), tt) (inl (omega arith, omega arith), tt) (inl (omega arith, omega arith), tt) in
+      (inr (omega arith), tt) (inl (omega arith), tt) (inl (omega arith, omega arith), tt) (inl (omega arith, omega arith), tt) in
       closed_lines (led e p x.lines ++ tested t e ++ Jump place ∷ []) place all
 
   -- a condition, if there is one
@@ -194,14 +192,14 @@ module _ (laws : PartLaws) (frame : Bool) where
       let lt = test_lines_length o e in
       let lx = led_length e q x.lines in
       let h1 = pieces_at laws frame (test_lines o e) (led e q x.lines) place p q (e ∷ []) (e ∷ q ∷ []) (e ∷ []) (omega arith) (omega arith)
-          (test_piece o place e (tested_if c place slot hc) (omega arith)) (ha p (test_slot o slot) e q (inr (omega arith)) (inr (omega arith)))
-          (inr (omega arith), tt) (inr (omega arith), (inr (omega arith), tt)) (inr (inl refl), tt) (inr (inl refl), (inl (omega arith, omega arith), tt)) in
+      (test_piece o place e (tested_if c place slot hc) (omega arith)) (ha p (test_slot o slot) e q (inr (omega arith)) (inr (omega arith)))
+      (inr (omega arith), tt) (inr (omega arith), (inr (omega arith), tt)) (inr (inl refl), tt) (inr (inl refl), (inl (omega arith, omega arith), tt)) in
       let l1 = length-append (test_lines o e) (led e q x.lines) in
       let h2 = pieces_at laws frame (test_lines o e ++ led e q x.lines) y.code place q j (e ∷ []) [] (e ∷ []) (omega arith) refl h1 ((hs q x.slot).is_section.piece frame)
-          (inr (omega arith), tt) tt (inr (inl refl), tt) tt in
+      (inr (omega arith), tt) tt (inr (inl refl), tt) tt in
       let l2 = length-append (test_lines o e ++ led e q x.lines) y.code in
       let all = pieces_at laws frame (test_lines o e ++ led e q x.lines ++ y.code) (Jump place ∷ []) place j e (e ∷ []) (place ∷ []) [] (omega arith) refl h2 (jump_piece laws frame j place (inl (omega arith)))
-          (inr (omega arith), tt) (inl (omega arith), tt) (inl (omega arith, omega arith), tt) (inl (omega arith, omega arith), tt) in
+      (inr (omega arith), tt) (inl (omega arith), tt) (inl (omega arith, omega arith), tt) (inl (omega arith, omega arith), tt) in
       closed_lines (test_lines o e ++ led e q x.lines ++ y.code ++ Jump place ∷ []) place all
 
   pub choice_good : (c : Code) (a : PieceCode) (b : Option PieceCode) → IsTest c → IsGoodPiece frame a → IfGoodPiece frame b → IsGoodPiece frame (if_by c a b)

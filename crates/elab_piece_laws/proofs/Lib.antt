@@ -1,3 +1,5 @@
 mod LiftedPieces
 mod GoodStatements
 mod GoodBodies
+mod ListedStatements
+mod ListedKinds

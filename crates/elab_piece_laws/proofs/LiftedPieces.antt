@@ -1,15 +1,14 @@
 -- The laws of pieces, over instructions, and lines that are closed.
-use Rattle.std.proofs.Common.{◌≡◌, inl, inr, ℕ, suc, ◌+◌, ◌≤◌, ◌⊎◌, Bool, true, false, List, [], ◌∷◌, ◌++◌, length, map, refl, ap, sym, subst, ◌∙◌, ⊎_elim, arith, length-append}
+use Rattle.std.proofs.Common.{◌≡◌, inl, inr, ℕ, ◌+◌, ◌≤◌, Bool, List, [], ◌∷◌, ◌++◌, length, map, refl, ap, sym, subst, ◌∙◌, arith, length-append}
 use Rattle.std.proofs.lemmas.List.{length-map, map-append}
 use Rattle.core_ir.specs.declared.instr.Instr.{Instr}
 use Rattle.core_ir.specs.declared.instr.Instr.TheVariants.{Branch, Jump}
-use Rattle.core_ir.specs.Flow.{IsAmong}
 use Rattle.core_ir.specs.Instructions.{outline_of}
 use Rattle.core_parts.specs.Pieces.{Each, IsOutside, IsPart, IsPiece, Leads, end_of}
 use Rattle.core_parts.specs.Theorems.{PartLaws}
 use Rattle.elab_expr.specs.Choices.{tested}
 use Rattle.elab_expr.specs.Made.{Made}
-use Rattle.elab.specs.Lines.{Breaks, Continues, Does, Line, led, led_line}
+use Rattle.elab.specs.Lines.{Does, Line, led, led_line}
 use Rattle.elab_piece_laws.specs.Lines.{outlines}
 
 -- ---- lines
@@ -52,10 +51,10 @@ module _ (laws : PartLaws) (frame : Bool) where
       let l : last ≡ end_of (outlines d) (end_of (outlines c) start) = sym (end_outlines d (end_of (outlines c) start) ∙ ap (λ n. n + length d) (sym m) ∙ at_last) in
       subst (λ o. IsPiece frame o start all) (sym (outlines_append c d))
       (laws.pieces.pieces frame (outlines c) (outlines d) start exits more all hc (subst (λ n. IsPiece frame (outlines d) n more) m hd)
-        (subst (λ n. Each (IsOutside n (end_of (outlines d) (end_of (outlines c) start))) exits) m (subst (λ n. Each (IsOutside middle n) exits) l out))
-        (subst (λ n. Each (IsOutside start n) more) m behind)
-        (subst (λ n. Each (Leads start n all) exits) l lead)
-        (subst (λ n. Each (Leads start n all) more) l lead_more))
+      (subst (λ n. Each (IsOutside n (end_of (outlines d) (end_of (outlines c) start))) exits) m (subst (λ n. Each (IsOutside middle n) exits) l out))
+      (subst (λ n. Each (IsOutside start n) more) m behind)
+      (subst (λ n. Each (Leads start n all) exits) l lead)
+      (subst (λ n. Each (Leads start n all) more) l lead_more))
 
   pub weaker : (c : List Instr) (start last : ℕ) (exits other : List ℕ) → start + length c ≡ last → IsPiece frame (outlines c) start exits → Each (Leads start last other) exits → IsPiece frame (outlines c) start other
   weaker c start last exits other at_last h lead = laws.pieces.weaker frame (outlines c) start exits other h (subst (λ n. Each (Leads start n other) exits) (sym (end_outlines c start ∙ at_last)) lead)

@@ -1,2 +1,4 @@
 pub mod Lines
 pub mod Theorems
+pub mod Fitting
+pub mod FittingLaws

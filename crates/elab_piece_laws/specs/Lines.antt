@@ -1,10 +1,10 @@
 -- What is said of the lines of a statement: wherever `break` and `continue` lead outside of them, they are a piece.
-use Rattle.std.specs.Prelude.{◌≡◌, ℕ, ◌+◌, Bool, Option, Some, None, List, [], ◌∷◌, ◌++◌, length, map}
+use Rattle.std.specs.Prelude.{ℕ, ◌+◌, Bool, Option, Some, None, List, [], ◌∷◌, length, map}
 use Rattle.core_ir.specs.declared.instr.Instr.{Instr}
 use Rattle.core_ir.specs.Instructions.{outline_of}
 use Rattle.core_ir.specs.Outline.{Outline}
 use Rattle.core_parts.specs.Pieces.{IsOutside, IsPart, IsPiece}
-use Rattle.elab_expr.specs.Made.{Code, Made}
+use Rattle.elab_expr.specs.Made.{Code}
 use Rattle.elab.specs.Lines.{Breaks, Continues, Does, Line, PieceCode, led}
 
 abbrev pub outlines : List Instr → List Outline

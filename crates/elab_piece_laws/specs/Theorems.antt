@@ -1,12 +1,12 @@
 -- Each row of statements gives a piece where its parts do, and a function's body is well formed.
-use Rattle.std.specs.Prelude.{ℕ, ◌+◌, Bool, true, false, Option, Some, None, List, [], ◌∷◌, ◌++◌, length}
+use Rattle.std.specs.Prelude.{ℕ, Bool, true, false, Option, Some, None, List}
 use Rattle.core_ir.specs.Order.{IsWellFormed}
 use Rattle.core_parts.specs.Theorems.{AreNumbered}
 use Rattle.elab_expr.specs.Made.{Code}
-use Rattle.elab.specs.Lines.{Breaks, Continues, Piece, PieceCode, all_full, all_joined, full, joined, led, no_lines, one_line}
+use Rattle.elab.specs.Lines.{Breaks, Continues, PieceCode, all_full, all_joined, full, joined, led, no_lines, one_line}
 use Rattle.elab.specs.Statements.{do_code, if_by, loop_code, returned, returned_nothing, while_code}
 use Rattle.elab.specs.Functions.{body_code, body_of}
-use Rattle.elab_piece_laws.specs.Lines.{AreFull, AreGoodLines, AreGoodPieces, IfFull, IsClosed, IsFull, IsGoodPiece, IsTest, outlines}
+use Rattle.elab_piece_laws.specs.Lines.{AreFull, AreGoodPieces, IfFull, IsClosed, IsFull, IsGoodPiece, IsTest, outlines}
 
 abbrev pub IfGoodPiece : Bool → Option PieceCode → Type 0
 IfGoodPiece frame None = Unit {0}

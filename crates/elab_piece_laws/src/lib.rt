@@ -3,4 +3,4 @@
 
 mod theorems;
 
-pub use theorems::statements_are_good;
+pub use theorems::{statements_are_good, statements_fit};
