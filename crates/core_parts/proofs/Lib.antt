@@ -1,0 +1,11 @@
+mod Windows
+mod PiecesCompose
+mod PartsCompose
+mod Tails
+mod Extensions
+mod Accesses
+mod Starts
+mod Calls
+mod Leaves
+mod Bodies
+mod Chains
