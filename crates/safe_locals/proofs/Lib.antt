@@ -1,0 +1,4 @@
+mod Serving
+mod Addresses
+mod MarksTell
+mod Judging

@@ -1,0 +1,5 @@
+mod Forms
+mod HoldingByForm
+mod Marking
+mod Complete
+mod ClassLaws
