@@ -1,7 +1,10 @@
 -- What is known against locals, operand by operand.
 use Rattle.std.proofs.Common.{◌≡◌, ◌∙◌, ◌⊎◌, inl, inr, ℕ, zero, suc, ◌+◌, ◌<◌, ◌≤◌, Bool, true, false, ◌&&◌, IsTrue, List, length, map, replicate, Option, Some, None, slice_get, slice_set, ℤ, pos, ◌≤ℤ◌, ◌<ℤ◌, int_le, int_lt, refl, sym, ap, subst, arith}
 use Rattle.std.specs.List.{slice_index_or}
+use Rattle.std.specs.Int.Signed.{lt_z_no, lt_z_yes}
 use Rattle.std.proofs.lemmas.Bool.{both_ways, cases_eq}
+use Rattle.std.proofs.lemmas.Float.{T_from_true}
+use Rattle.std.proofs.lemmas.Int.{ints}
 use Rattle.std.proofs.lemmas.List.{get_or-replicate, get_or-set_other, get_or-set_same, length-replicate, length-set}
 use Rattle.std.proofs.lemmas.Option.{same_Some, slice_get_within}
 use Rattle.core_ir.specs.declared.role.Role.{Role}
@@ -24,10 +27,11 @@ both_true : (a b : Bool) → a ≡ true → b ≡ true → (a && b) ≡ true
 both_true a b p q = ap (λ x. x && b) p ∙ q
 
 inside_is : (o : ℤ) (units : ℕ) → is_inside o units ≡ true → IsInside o units
-inside_is o units is = let p = both (int_le (pos 0) o) (int_lt o (pos units)) is in (?, ?)
+inside_is o units is =
+    let p = both (int_le (pos 0) o) (int_lt o (pos units)) is in (lt_z_no (T_from_true (int_le (pos 0) o) p.0), lt_z_yes (T_from_true (int_lt o (pos units)) p.1))
 
 inside_true : (o : ℤ) (units : ℕ) → IsInside o units → is_inside o units ≡ true
-inside_true o units is = both_true (int_le (pos 0) o) (int_lt o (pos units)) ? ?
+inside_true o units is = both_true (int_le (pos 0) o) (int_lt o (pos units)) (grind (arith, ints, is.0)) (grind (arith, ints, is.1))
 
 module _ {code : List Outline} (u : ℕ) (marks : List Mark) (tell : (r : ℕ) → Tells code u r (mark_at marks r)) where
   -- ---- harmless operands

@@ -1,5 +1,5 @@
 -- The laws of classes, and what a table of classes tells of the types that reach a struct.
-use Rattle.std.proofs.Common.{◌≡◌, ◌≢◌, ◌∙◌, ◌↔◌, ℕ, Bool, true, false, IsTrue, List, Some, is_none, refl, sym, ap, subst}
+use Rattle.std.proofs.Common.{◌≡◌, ◌≢◌, ◌∙◌, ◌↔◌, ℕ, Bool, true, false, IsTrue, List, None, Some, is_none, refl, sym, ap, subst}
 use Rattle.std.proofs.lemmas.Bool.{both_ways}
 use Rattle.c_types.specs.declared.structs.StructDef.{StructDef}
 use Rattle.c_types.specs.declared.ty.Ty.{Ty}
@@ -8,12 +8,14 @@ use Rattle.c_types.specs.Kinds.{element_of, struct_of, target_of}
 use Rattle.c_types.specs.Structs.{body_of}
 use Rattle.sensitivity.specs.declared.class.Class.{Class}
 use Rattle.sensitivity.specs.declared.class.Class.TheVariants as class
-use Rattle.sensitivity.specs.Holds.{Holds, array, code, has_no_body, is_code_pointer, is_universal, member, pointer, universal}
+use Rattle.sensitivity.specs.Holds.{Holds, array, code, has_no_body, is_code, is_code_pointer, is_open, is_universal, member, pointer, universal}
 use Rattle.sensitivity.specs.Classes.{AreClasses, HasClass, IsTyped, PointsToHolder, class_at}
 use Rattle.sensitivity.specs.Theorems.{ArraysAreAsTheirElements, ClassesAreUnique, PointersHold}
-use Rattle.sensitivity.specs.inner.Marks.{is_universal_class}
-use Rattle.sensitivity.proofs.Forms.{code_array, code_of, code_points, element_of_array, no_code_struct, no_struct, no_struct_in, open_array, same_struct, same_target, struct_of_struct, target_of_pointer, universal_of, universal_points, universal_struct}
-use Rattle.sensitivity.proofs.HoldingByForm.{element_holds, target_holds}
+use Rattle.sensitivity.specs.declared.holding.Holding.{Holding}
+use Rattle.sensitivity.specs.declared.holding.Holding.TheVariants as holding
+use Rattle.sensitivity.specs.inner.Marks.{IsHolding, TellsBodies, is_universal_class}
+use Rattle.sensitivity.proofs.Forms.{code_array, code_of, code_points, element_of_array, no_code, no_code_struct, no_struct, no_struct_in, no_universal, open_array, same_struct, same_target, struct_of_struct, target_of_pointer, universal_of, universal_points, universal_struct}
+use Rattle.sensitivity.proofs.HoldingByForm.{element_holds, holds_reached, open_by, reached_holds, target_holds}
 
 -- ---- no type has two classes
 
@@ -136,3 +138,44 @@ module _ (defs : List StructDef) (classes : List Class) (are : AreClasses defs c
 
   pub holds_sensitive : Holds defs (ty.Struct s) → class_at classes s ≡ class.Sensitive
   holds_sensitive = holds_by (class_at classes s) (are s)
+
+-- ---- what a table tells of a type
+
+module _ (defs : List StructDef) (classes slice : List Class) (t : Ty) (x : Holding) (ensures : (ds : List StructDef) → TellsBodies ds slice → IsHolding ds t x) (same : slice ≡ classes) where
+  holding_is : (y : Holding) → x ≡ y → AreClasses defs classes → IsHolding defs t y
+  holding_is y e are = subst (IsHolding defs t) e (ensures defs (λ s. ap (λ xs. is_universal_class (class_at xs s)) same ∙ tells defs classes are s))
+
+  pub table_always : x ≡ holding.Always → AreClasses defs classes → Holds defs t
+  table_always e are = holding_is holding.Always e are
+
+  pub table_never : x ≡ holding.Never → AreClasses defs classes → Holds defs t → ⊥
+  table_never e are = holding_is holding.Never e are
+
+  pub table_yes : (s : ℕ) → x ≡ holding.AsStruct s → class_at classes s ≡ class.Sensitive → AreClasses defs classes → Holds defs t
+  table_yes s e is are = reached_holds defs (holding_is (holding.AsStruct s) e are) (sensitive_holds defs classes are s is)
+
+  pub table_no : (s : ℕ) → x ≡ holding.AsStruct s → (class_at classes s ≡ class.Sensitive → ⊥) → AreClasses defs classes → Holds defs t → ⊥
+  table_no s e no are h = no (holds_sensitive defs classes are s (holds_reached defs (holding_is (holding.AsStruct s) e are) h))
+
+-- ---- the class of a pointer
+
+module _ (defs : List StructDef) (classes slice : List Class) (u : Ty) (same : slice ≡ classes) (are : AreClasses defs classes) where
+  pub code_to : is_code_pointer (ty.Pointer u) ≡ is_code u
+  code_to = code_of (ty.Pointer u) u (target_of_pointer u)
+
+  pub universal_to : is_universal defs (ty.Pointer u) ≡ is_open (λ s. is_universal_class (class_at slice s)) u
+  universal_to = universal_of defs (ty.Pointer u) u (target_of_pointer u)
+      ∙ open_by (has_no_body defs) (λ s. is_universal_class (class_at slice s)) u (λ s. sym (ap (λ xs. is_universal_class (class_at xs s)) same ∙ tells defs classes are s))
+
+  pub points_to : Holds defs u → PointsToHolder defs (ty.Pointer u)
+  points_to h = record { target = u; is = target_of_pointer u; holds = h }
+
+  pub pointed_holds : PointsToHolder defs (ty.Pointer u) → Holds defs u
+  pointed_holds p = subst (Holds defs) (same_target (ty.Pointer u) p.target u p.is (target_of_pointer u)) p.holds
+
+-- what is no pointer is regular
+pub no_pointer : (defs : List StructDef) (t : Ty) → target_of t ≡ None → HasClass defs t class.Regular
+no_pointer defs t none = (
+  record { no_code = no_code t none; no_universal = no_universal defs t none },
+  λ p. let e = p.is in absurd (cc),
+)

@@ -2,9 +2,11 @@
 use Rattle.std.proofs.Common.{◌≡◌, ◌∙◌, ◌↔◌, ℕ, Bool, true, false, IsTrue, List, Option, Some, None, refl, sym, ap, subst}
 use Rattle.std.proofs.lemmas.Bool.{both_ways}
 use Rattle.c_types.specs.declared.structs.StructDef.{StructDef}
-use Rattle.c_types.specs.declared.ty.Ty.{Ty}
+use Rattle.c_types.specs.declared.ty.Ty.{Ty, out-Ty}
+use Rattle.c_types.specs.declared.ty.Ty.TheOpen.{Ty-F}
+use Rattle.c_types.specs.declared.ty.FnTy.{FnTy}
 use Rattle.c_types.specs.declared.ty.Ty.TheVariants as ty
-use Rattle.c_types.specs.Kinds.{element_of, struct_of, target_of}
+use Rattle.c_types.specs.Kinds.{element_at, element_of, struct_at, struct_of, target_at, target_of}
 use Rattle.sensitivity.specs.declared.holding.Holding.{Holding}
 use Rattle.sensitivity.specs.declared.holding.Holding.TheVariants as holding
 use Rattle.sensitivity.specs.Holds.{Holds, array, code, is_code_pointer, is_open, is_universal, member, pointer, universal}
@@ -78,5 +80,18 @@ pub open_by : (f g : ℕ → Bool) (t : Ty) → ((s : ℕ) → f s ≡ g s) → 
 open_by f g t same = ap (λ (h : ℕ → Bool). is_open h t) (λ i s. same s i)
 
 -- of a type with no part
-pub never_at : (defs : List StructDef) (t u : Ty) → t ≡ u → target_of u ≡ None → element_of u ≡ None → struct_of u ≡ None → Holds defs t → ⊥
-never_at defs t u is a b c h = never defs (ap target_of is ∙ a) (ap element_of is ∙ b) (ap struct_of is ∙ c) h
+never_outer : (defs : List StructDef) (t : Ty) (y : Ty-F Ty FnTy) → out-Ty t ≡ y → target_at y ≡ None → element_at y ≡ None → struct_at y ≡ None → Holds defs t → ⊥
+unfolding target_of element_of struct_of
+never_outer defs t y is a b c h = never defs (ap target_at is ∙ a) (ap element_at is ∙ b) (ap struct_at is ∙ c) h
+
+pub never_int : (defs : List StructDef) (t : Ty) → t ≡ ty.Int → Holds defs t → ⊥
+never_int defs t is = never_outer defs t Ty-F.Int (ap out-Ty is ∙ ty.outs-Int) refl refl refl
+
+pub never_char : (defs : List StructDef) (t : Ty) → t ≡ ty.Char → Holds defs t → ⊥
+never_char defs t is = never_outer defs t Ty-F.Char (ap out-Ty is ∙ ty.outs-Char) refl refl refl
+
+pub never_void : (defs : List StructDef) (t : Ty) → t ≡ ty.Void → Holds defs t → ⊥
+never_void defs t is = never_outer defs t Ty-F.Void (ap out-Ty is ∙ ty.outs-Void) refl refl refl
+
+pub never_function : (defs : List StructDef) (t : Ty) (f : FnTy) → t ≡ ty.Function f → Holds defs t → ⊥
+never_function defs t f is = never_outer defs t (Ty-F.Function f) (ap out-Ty is ∙ ty.outs-Function f) refl refl refl

@@ -2,4 +2,5 @@ mod Forms
 mod HoldingByForm
 mod Marking
 mod Complete
+mod SearchSteps
 mod ClassLaws

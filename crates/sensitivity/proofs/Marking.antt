@@ -71,7 +71,7 @@ class_unmarked false = refl
 
 first_count : (defs : List StructDef) → count_by is_sensitive_class (map first_class defs) ≡ 0
 first_count [] = refl
-first_count (d ∷ ds) = let e = class_unmarked (is_some d.members) in omega (arith, e, first_count ds)
+first_count (d ∷ ds) = ap (λ n. n + count_by is_sensitive_class (map first_class ds)) (class_unmarked (is_some d.members)) ∙ first_count ds
 
 pub marked_first : (defs : List StructDef) → AreMarked defs (record { of_structs = map first_class defs; found = [] })
 marked_first defs = record {
@@ -199,3 +199,13 @@ included_more lists n s list low is m t there = elim (cases_eq m n) [
       subst (λ xs. Contains xs t) (sym now) (Contains-append_left (get_or lists m []) (s ∷ []) t there)
   | inr ne ↦ subst (λ xs. Contains xs t) (sym (get_or-set_other lists n m list [] ne)) there
 ]
+
+-- an empty list more
+empty_at : (lists : List (List ℕ)) (n : ℕ) → get_or (lists ++ [] ∷ []) n [] ≡ get_or lists n []
+empty_at [] zero = refl
+empty_at [] (suc n) = refl
+empty_at (xs ∷ lists) zero = refl
+empty_at (xs ∷ lists) (suc n) = empty_at lists n
+
+pub included_none : (lists : List (List ℕ)) → ((n s : ℕ) → Includes lists n s → ⊥) → (n s : ℕ) → Includes (lists ++ [] ∷ []) n s → ⊥
+included_none lists none n s there = none n s (subst (λ xs. Contains xs s) (empty_at lists n) there)

@@ -55,10 +55,12 @@ impl Marks {
             → AreMarked defs self.new × IsMarked self.new s) }
         ensures extends { OnOk result (Extends self.old self.new) }
     {
-        if matches!(class_at(self.of_structs.as_slice(), s), Class::Regular) {
-            self.found.push(s)?;
-            self.of_structs.set(s as usize, Class::Sensitive);
+        match class_at(self.of_structs.as_slice(), s) {
+            Class::Regular => (),
+            _ => return Ok(()),
         }
+        self.found.push(s)?;
+        self.of_structs.set(s as usize, Class::Sensitive);
         Ok(())
     }
 
