@@ -155,7 +155,7 @@ module _ (defs : List StructDef) (classes slice : List Class) (t : Ty) (x : Hold
   table_yes s e is are = reached_holds defs (holding_is (holding.AsStruct s) e are) (sensitive_holds defs classes are s is)
 
   pub table_no : (s : ℕ) → x ≡ holding.AsStruct s → (class_at classes s ≡ class.Sensitive → ⊥) → AreClasses defs classes → Holds defs t → ⊥
-  table_no s e no are h = no (holds_sensitive defs classes are s (holds_reached defs (holding_is (holding.AsStruct s) e are) h))
+  table_no s e other are h = other (holds_sensitive defs classes are s (holds_reached defs (holding_is (holding.AsStruct s) e are) h))
 
 -- ---- the class of a pointer
 

@@ -120,10 +120,10 @@ pub universal_struct : (defs : List StructDef) (s : ℕ) → is_universal defs (
 universal_struct defs s = universal_of defs (ty.Pointer (ty.Struct s)) (ty.Struct s) (target_of_pointer (ty.Struct s)) ∙ open_struct defs s
 
 no_target_at : (t : Ty) (y : Outer) → out-Ty t ≡ y → ((u : Ty) → t ≡ ty.Pointer u → ⊥) → target_at y ≡ None
-no_target_at t (Ty-F.Pointer u) e no = absurd (no u (sym (roll-out-Ty t) ∙ ap roll-Ty (e ∙ sym (ty.outs-Pointer u)) ∙ roll-out-Ty (ty.Pointer u)))
-no_target_at t _ e no = refl
+no_target_at t (Ty-F.Pointer u) e other = absurd (other u (sym (roll-out-Ty t) ∙ ap roll-Ty (e ∙ sym (ty.outs-Pointer u)) ∙ roll-out-Ty (ty.Pointer u)))
+no_target_at t _ e other = refl
 
 -- what is no pointer points to nothing
 pub no_target : (t : Ty) → ((u : Ty) → t ≡ ty.Pointer u → ⊥) → target_of t ≡ None
 unfolding target_of
-no_target t no = no_target_at t (out-Ty t) refl no
+no_target t other = no_target_at t (out-Ty t) refl other

@@ -1,5 +1,5 @@
 -- What the question whether a type holds comes to, by its form.
-use Rattle.std.proofs.Common.{◌≡◌, ◌∙◌, ◌↔◌, ℕ, Bool, true, false, IsTrue, List, Option, Some, None, refl, sym, ap, subst}
+use Rattle.std.proofs.Common.{◌≡◌, ◌∙◌, ◌⊎◌, inl, inr, ℕ, Bool, true, false, IsTrue, List, Option, Some, None, refl, sym, ap, subst}
 use Rattle.std.proofs.lemmas.Bool.{both_ways}
 use Rattle.c_types.specs.declared.structs.StructDef.{StructDef}
 use Rattle.c_types.specs.declared.ty.Ty.{Ty, out-Ty}
@@ -95,3 +95,9 @@ never_void defs t is = never_outer defs t Ty-F.Void (ap out-Ty is ∙ ty.outs-Vo
 
 pub never_function : (defs : List StructDef) (t : Ty) (f : FnTy) → t ≡ ty.Function f → Holds defs t → ⊥
 never_function defs t f is = never_outer defs t (Ty-F.Function f) (ap out-Ty is ∙ ty.outs-Function f) refl refl refl
+
+pub never_plain : (defs : List StructDef) (t : Ty) → (t ≡ ty.Int) ⊎ ((t ≡ ty.Char) ⊎ ((t ≡ ty.Void) ⊎ ((f : FnTy) × (t ≡ ty.Function f)))) → Holds defs t → ⊥
+never_plain defs t (inl is) = never_int defs t is
+never_plain defs t (inr (inl is)) = never_char defs t is
+never_plain defs t (inr (inr (inl is))) = never_void defs t is
+never_plain defs t (inr (inr (inr is))) = never_function defs t is.0 is.1

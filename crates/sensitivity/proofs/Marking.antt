@@ -5,7 +5,7 @@ use Rattle.std.specs.Option.{option_and_then}
 use Rattle.std.proofs.lemmas.Bool.{both_ways, cases_eq, cases_lt}
 use Rattle.std.proofs.lemmas.List.{get_or_past, get_or-set_other, get_or-set_same, length-append, length-map, length-set}
 use Rattle.std.proofs.lemmas.List.Elements.{Contains-append_left}
-use Rattle.std.proofs.lemmas.List.Sums.{sum_by-set}
+use Rattle.std.proofs.lemmas.List.Sums.{sum_by-cons, sum_by-set}
 use Rattle.std.proofs.lemmas.Option.{same_Some}
 use Rattle.c_types.specs.declared.structs.Member.{Member}
 use Rattle.c_types.specs.declared.structs.StructDef.{StructDef}
@@ -17,7 +17,7 @@ use Rattle.sensitivity.specs.declared.class.Class.TheVariants as class
 use Rattle.sensitivity.specs.declared.marks.Marks.{Marks}
 use Rattle.sensitivity.specs.Holds.{Holds, has_no_body}
 use Rattle.sensitivity.specs.Classes.{class_at}
-use Rattle.sensitivity.specs.inner.Marks.{AreMarked, CanMark, Extends, Includes, IsMarked, class_by, first_class, is_sensitive_class, is_universal_class}
+use Rattle.sensitivity.specs.inner.Marks.{AreMarked, CanMark, Extends, Includes, IsMarked, class_by, first_class, is_regular_class, is_sensitive_class, is_universal_class}
 
 -- ---- lists with one more at the end
 
@@ -69,9 +69,15 @@ class_unmarked : (b : Bool) → ◌≡◌ {A = ℕ} (cond (is_sensitive_class (c
 class_unmarked true = refl
 class_unmarked false = refl
 
+zero_sum : (n : ℕ) → n ≡ 0 → 0 + n ≡ 0
+zero_sum n is = omega (arith, is)
+
 first_count : (defs : List StructDef) → count_by is_sensitive_class (map first_class defs) ≡ 0
 first_count [] = refl
-first_count (d ∷ ds) = ap (λ n. n + count_by is_sensitive_class (map first_class ds)) (class_unmarked (is_some d.members)) ∙ first_count ds
+first_count (d ∷ ds) =
+    let rest = count_by is_sensitive_class (map first_class ds) in
+    sum_by-cons (λ (a : Class). cond {A = ℕ} (is_sensitive_class a) 1 0) (first_class d) (map first_class ds)
+    ∙ ap (λ n. n + rest) (class_unmarked (is_some d.members)) ∙ zero_sum rest (first_count ds)
 
 pub marked_first : (defs : List StructDef) → AreMarked defs (record { of_structs = map first_class defs; found = [] })
 marked_first defs = record {
@@ -171,6 +177,15 @@ module _ (old : Marks) (s : ℕ) (classes : List Class) (found : List ℕ) (regu
 
   pub mark_marks : (defs : List StructDef) → AreMarked defs old → CanMark defs s → AreMarked defs (record { of_structs = classes; found = found }) × (class_at classes s ≡ class.Sensitive)
   mark_marks defs are can = (subst (λ x. AreMarked defs x) same_marks (marked_more old s regular defs are can), subst (λ x. IsMarked x s) same_marks (marked_now old s regular))
+
+pub regular_is : (a : Class) → is_regular_class a ≡ true → a ≡ class.Regular
+regular_is class.Regular is = refl
+regular_is class.Code is = absurd (cc)
+regular_is class.Universal is = absurd (cc)
+regular_is class.Sensitive is = absurd (cc)
+
+pub not_regular : (a : Class) → is_regular_class a ≡ false → a ≡ class.Regular → ⊥
+not_regular a is e = let f = ap is_regular_class e in both_ways _ is f
 
 -- what has a body, and isn't regular, is marked
 pub marked_before : (defs : List StructDef) (marks : Marks) (s : ℕ) → AreMarked defs marks → CanMark defs s → (class_at marks.of_structs s ≡ class.Regular → ⊥) → IsMarked marks s

@@ -2,7 +2,7 @@
 
 ghost use Rattle.std.specs.Prelude.{◌≡◌, List, All, IfOk, OnOk, map};
 ghost use Rattle.c_types.specs.declared.structs.StructDef.{StructDef};
-ghost use Rattle.sensitivity.specs.inner.Marks.{AreMarked, CanMark, Extends, IsMarked, first_class};
+ghost use Rattle.sensitivity.specs.inner.Marks.{AreMarked, CanMark, Extends, IsMarked, first_class, is_regular_class};
 
 use crate::holding::class_at;
 use crate::class::Class;
@@ -26,6 +26,13 @@ fn first_class_of(def: &StructDef) -> Class
         Some(_) => Class::Regular,
         None => Class::Universal,
     }
+}
+
+/// Whether it is the class of a pointer to a struct with a body that isn't known to hold code pointers.
+fn is_regular(class: Class) -> bool
+    ensures { result ≡ is_regular_class class }
+{
+    matches!(class, Class::Regular)
 }
 
 /// The class of a pointer to each struct, while no more is known.
@@ -55,9 +62,8 @@ impl Marks {
             → AreMarked defs self.new × IsMarked self.new s) }
         ensures extends { OnOk result (Extends self.old self.new) }
     {
-        match class_at(self.of_structs.as_slice(), s) {
-            Class::Regular => (),
-            _ => return Ok(()),
+        if !is_regular(class_at(self.of_structs.as_slice(), s)) {
+            return Ok(());
         }
         self.found.push(s)?;
         self.of_structs.set(s as usize, Class::Sensitive);

@@ -44,6 +44,10 @@ abbrev pub is_sensitive_class : Class → Bool
 is_sensitive_class class.Sensitive = true
 is_sensitive_class _ = false
 
+abbrev pub is_regular_class : Class → Bool
+is_regular_class class.Regular = true
+is_regular_class _ = false
+
 -- the table tells which structs have no body
 abbrev pub TellsBodies : List StructDef → List Class → Type 0
 TellsBodies defs classes = (s : ℕ) → is_universal_class (class_at classes s) ≡ has_no_body defs s

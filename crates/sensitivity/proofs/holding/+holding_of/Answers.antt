@@ -4,7 +4,7 @@ use Rattle.sensitivity.specs.Holds.{code, has_no_body, is_open, universal}
 use Rattle.sensitivity.specs.Classes.{class_at}
 use Rattle.sensitivity.specs.inner.Marks.{here, is_universal_class}
 use Rattle.sensitivity.proofs.Forms.{code_of, universal_of}
-use Rattle.sensitivity.proofs.HoldingByForm.{element_is, holding_element, holding_target, never_char, never_function, never_int, never_void, open_by, struct_of_is, target_is}
+use Rattle.sensitivity.proofs.HoldingByForm.{element_is, holding_element, holding_target, never_plain, open_by, struct_of_is, target_is}
 use Rattle.sensitivity.proofs.holding.+holding_of.Goals as goal
 
 pub returns-in-Struct : goal.returns-in-Struct
@@ -37,13 +37,13 @@ returns-else-is_open t c =
     (c.holding_of-in-Pointer.ensures defs tells)
 
 pub returns-in-Int : goal.returns-in-Int
-returns-in-Int t c = λ defs tells. never_int defs c.args.ty.now c.in-Int.is
+returns-in-Int t c = λ defs tells. never_plain defs c.args.ty.now c.in-Int.is
 
 pub returns-in-Int-2 : goal.returns-in-Int-2
-returns-in-Int-2 t c = λ defs tells. never_char defs c.args.ty.now c.in-Int.is
+returns-in-Int-2 t c = λ defs tells. never_plain defs c.args.ty.now c.in-Int.is
 
 pub returns-in-Int-3 : goal.returns-in-Int-3
-returns-in-Int-3 t c = λ defs tells. never_void defs c.args.ty.now c.in-Int.is
+returns-in-Int-3 t c = λ defs tells. never_plain defs c.args.ty.now c.in-Int.is
 
 pub returns-in-Int-4 : goal.returns-in-Int-4
-returns-in-Int-4 t c = λ defs tells. never_function defs c.args.ty.now _ c.in-Int.is
+returns-in-Int-4 t c = λ defs tells. never_plain defs c.args.ty.now c.in-Int.is
