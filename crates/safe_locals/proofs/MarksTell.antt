@@ -138,3 +138,10 @@ module _ {code : List Outline} where
             | inr ne ↦ subst (IsWithin (most_offset (u + 1))) (sym (other r ne)) (within_kept (mark_at marks r) (are.within r))
           ];
         }
+
+-- nothing is known before the first place
+pub marks_first : (code : List Outline) (marks : List Mark) → ((r : ℕ) → mark_at marks r ≡ mark.Other) → AreMarks code 0 marks
+marks_first code marks none = record {
+  tell = λ r. tells_none {code = code} r (mark_at marks r) (none r);
+  within = λ r. subst (IsWithin (most_offset 0)) (sym (none r)) tt;
+}

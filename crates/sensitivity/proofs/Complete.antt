@@ -1,27 +1,21 @@
 -- The search is sound and complete.
-use Rattle.std.proofs.Common.{◌≡◌, ◌≢◌, ◌∙◌, ◌⊎◌, inl, inr, ℕ, ◌+◌, ◌<◌, ◌≤◌, Bool, true, false, IsTrue, List, [], Option, Some, None, is_none, length, slice_get, refl, sym, ap, subst, arith}
-use Rattle.std.specs.List.{All, Contains}
+use Rattle.std.proofs.Common.{◌≡◌, ◌∙◌, ℕ, ◌<◌, false, List, Option, Some, None, is_none, length, slice_get, refl, sym, ap, subst, arith}
 use Rattle.std.specs.Option.{option_and_then}
-use Rattle.std.proofs.lemmas.Bool.{both_ways, cases_eq}
-use Rattle.std.proofs.lemmas.List.Sums.{count_by-le-length}
+use Rattle.std.proofs.lemmas.Bool.{both_ways}
 use Rattle.std.proofs.lemmas.Option.{slice_get_within}
 use Rattle.c_types.specs.declared.structs.Member.{Member}
 use Rattle.c_types.specs.declared.structs.StructDef.{StructDef}
 use Rattle.c_types.specs.declared.ty.Ty.{Ty}
 use Rattle.c_types.specs.declared.ty.Ty.TheVariants as ty
-use Rattle.c_types.specs.Kinds.{element_of, struct_of, target_of}
-use Rattle.c_types.specs.Structs.{body_of}
 use Rattle.sensitivity.specs.declared.holding.Holding.{Holding}
 use Rattle.sensitivity.specs.declared.holding.Holding.TheVariants as holding
 use Rattle.sensitivity.specs.declared.class.Class.{Class}
 use Rattle.sensitivity.specs.declared.class.Class.TheVariants as class
-use Rattle.sensitivity.specs.declared.marks.Marks.{Marks}
 use Rattle.sensitivity.specs.declared.search.Search.{Search}
 use Rattle.sensitivity.specs.Holds.{Holds, array, code, has_no_body, member, pointer, universal}
-use Rattle.sensitivity.specs.Classes.{AreClasses, HasClass, PointsToHolder, class_at}
-use Rattle.sensitivity.specs.inner.Marks.{AreMarked, Extends, Follows, Grows, Includes, IsFollowed, IsHolding, IsMarked, IsMember, IsNoted, IsRead, IsSearch, IsStructRead, Reaches, behind, here, inside, is_universal_class}
+use Rattle.sensitivity.specs.Classes.{AreClasses, HasClass, class_at}
+use Rattle.sensitivity.specs.inner.Marks.{Grows, IsFollowed, IsHolding, IsMarked, IsMember, IsNoted, IsRead, IsSearch, IsStructRead, Reaches, behind, here, inside, is_universal_class}
 use Rattle.sensitivity.proofs.Forms.{code_points, no_code_struct, no_element, no_struct, no_struct_in, same_element, same_struct, same_target, struct_of_struct, target_of_pointer, universal_points, universal_struct}
-use Rattle.sensitivity.proofs.HoldingByForm.{reached_holds}
 use Rattle.sensitivity.proofs.Marking.{class_low, extends_then}
 
 body_there : (o : Option (List Member)) (ms : List Member) → o ≡ Some ms → is_none o ≡ false
@@ -108,7 +102,7 @@ module _ (defs : List StructDef) (search : Search) (are : IsSearch defs search) 
     class_is s class.Regular is = (
       record { no_code = no_code_struct s; no_universal = universal_struct defs s ∙ sym (are.marked.bodies s) ∙ ap is_universal_class is },
       λ p. let h = subst (Holds defs) (same_target (ty.Pointer (ty.Struct s)) p.target (ty.Struct s) p.is (target_of_pointer (ty.Struct s))) p.holds in
-      let marked = complete h s (here (ty.Struct s) s (struct_of_struct s)) in absurd (let e = sym is ∙ marked in cc),
+          let marked = complete h s (here (ty.Struct s) s (struct_of_struct s)) in absurd (let e = sym is ∙ marked in cc),
     )
 
     pub classes_are : AreClasses defs search.marks.of_structs

@@ -1,5 +1,5 @@
 -- Marking a struct.
-use Rattle.std.proofs.Common.{◌≡◌, ◌≢◌, ◌∙◌, ◌⊎◌, inl, inr, ℕ, zero, suc, ◌+◌, ◌<◌, ◌≤◌, Bool, true, false, cond, List, [], ◌∷◌, ◌++◌, Option, Some, None, count_by, get_or, is_none, is_some, length, map, slice_get, slice_set, refl, sym, ap, subst, arith}
+use Rattle.std.proofs.Common.{◌≡◌, ◌≢◌, ◌∙◌, ◌⊎◌, inl, inr, ℕ, zero, suc, ◌+◌, ◌<◌, Bool, true, false, cond, List, [], ◌∷◌, ◌++◌, Option, Some, None, count_by, get_or, is_none, is_some, length, map, slice_get, slice_set, refl, sym, ap, subst, arith}
 use Rattle.std.specs.List.{Contains}
 use Rattle.std.specs.Option.{option_and_then}
 use Rattle.std.proofs.lemmas.Bool.{both_ways, cases_eq, cases_lt}
@@ -9,9 +9,7 @@ use Rattle.std.proofs.lemmas.List.Sums.{sum_by-cons, sum_by-set}
 use Rattle.std.proofs.lemmas.Option.{same_Some}
 use Rattle.c_types.specs.declared.structs.Member.{Member}
 use Rattle.c_types.specs.declared.structs.StructDef.{StructDef}
-use Rattle.c_types.specs.declared.ty.Ty.{Ty}
 use Rattle.c_types.specs.declared.ty.Ty.TheVariants as ty
-use Rattle.c_types.specs.Structs.{body_of}
 use Rattle.sensitivity.specs.declared.class.Class.{Class}
 use Rattle.sensitivity.specs.declared.class.Class.TheVariants as class
 use Rattle.sensitivity.specs.declared.marks.Marks.{Marks}
@@ -210,7 +208,7 @@ pub included_more : (lists : List (List ℕ)) (n s : ℕ) (list : List ℕ) → 
 included_more lists n s list low is m t there = elim (cases_eq m n) [
   | inl e ↦
       let now : get_or (slice_set lists n list) m [] ≡ get_or lists m [] ++ s ∷ [] =
-          ap (λ x. get_or (slice_set lists n list) x []) e ∙ get_or-set_same lists n list [] low ∙ is ∙ ap (λ x. get_or lists x [] ++ s ∷ []) (sym e) in
+      ap (λ x. get_or (slice_set lists n list) x []) e ∙ get_or-set_same lists n list [] low ∙ is ∙ ap (λ x. get_or lists x [] ++ s ∷ []) (sym e) in
       subst (λ xs. Contains xs t) (sym now) (Contains-append_left (get_or lists m []) (s ∷ []) t there)
   | inr ne ↦ subst (λ xs. Contains xs t) (sym (get_or-set_other lists n m list [] ne)) there
 ]

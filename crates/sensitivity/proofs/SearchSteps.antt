@@ -14,7 +14,7 @@ use Rattle.sensitivity.specs.declared.holding.Holding.{Holding}
 use Rattle.sensitivity.specs.declared.holding.Holding.TheVariants as holding
 use Rattle.sensitivity.specs.declared.marks.Marks.{Marks}
 use Rattle.sensitivity.specs.declared.search.Search.{Search}
-use Rattle.sensitivity.specs.inner.Marks.{AreMarked, CanMark, Extends, Follows, Grows, Includes, IsFollowed, IsHolding, IsMarked, IsMember, IsRead, IsSearch, IsStructRead, Reaches, TellsBodies, is_sensitive_class}
+use Rattle.sensitivity.specs.inner.Marks.{AreMarked, CanMark, Extends, Follows, Grows, Includes, IsFollowed, IsHolding, IsMarked, IsMember, IsRead, IsSearch, IsStructRead, is_sensitive_class}
 use Rattle.sensitivity.proofs.HoldingByForm.{reached_holds}
 use Rattle.sensitivity.proofs.Marking.{extends_same}
 use Rattle.sensitivity.proofs.Complete.{member_body, member_holds, struct_read_kept}
@@ -60,7 +60,7 @@ module _ (defs : List StructDef) (search : Search) (are : IsSearch defs search) 
   pub askers_can : (n : ℕ) → IsMarked search.marks n → (list : List ℕ) → list ≡ slice_index_or search.askers.lists.items n [] → All (CanMark defs) list
   askers_can n marked list is k d low =
       let there : Includes search.askers.lists.items n (slice_index_or list k d) =
-          subst (λ xs. Contains xs (slice_index_or list k d)) is (Contains-get_or list k d low) in
+      subst (λ xs. Contains xs (slice_index_or list k d)) is (Contains-get_or list k d low) in
       let f = are.askers n (slice_index_or list k d) there in
       record { body = f.body; holds = f.holds (are.marked.holds n marked) }
 

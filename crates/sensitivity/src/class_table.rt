@@ -6,8 +6,8 @@ ghost use Rattle.sensitivity.specs.Classes as spec;
 ghost use Rattle.sensitivity.specs.Classes.{AreClasses, HasClass};
 ghost use Rattle.sensitivity.specs.Holds.{Holds};
 
-use crate::holding::{Holding, holding_of, class_at, is_code, is_open};
 use crate::class::Class;
+use crate::holding::{Holding, class_at, holding_of, is_code, is_open};
 use crate::search::Search;
 use c_types::{StructTable, Ty};
 use sqlite_items::Items;
@@ -65,7 +65,11 @@ impl ClassTable {
         if is_open(self.of_structs.as_slice(), target) {
             return Class::Universal;
         }
-        if self.holds(target) { Class::Sensitive } else { Class::Regular }
+        if self.holds(target) {
+            Class::Sensitive
+        } else {
+            Class::Regular
+        }
     }
 
     /// The class of a type. It takes time that grows with the parts of the type.

@@ -1,10 +1,10 @@
 //! Which types hold code pointers, and the class of each type: how values of it are protected.
 #![tactic(auto)]
 
-mod holding;
 mod askers;
 mod class;
 mod class_table;
+mod holding;
 mod marks;
 mod search;
 mod theorems;

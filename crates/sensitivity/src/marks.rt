@@ -4,8 +4,8 @@ ghost use Rattle.std.specs.Prelude.{◌≡◌, List, All, IfOk, OnOk, map};
 ghost use Rattle.c_types.specs.declared.structs.StructDef.{StructDef};
 ghost use Rattle.sensitivity.specs.inner.Marks.{AreMarked, CanMark, Extends, IsMarked, first_class, is_regular_class};
 
-use crate::holding::class_at;
 use crate::class::Class;
+use crate::holding::class_at;
 use c_types::StructDef;
 use sqlite_items::Items;
 use std::alloc::{AllocError, Global};

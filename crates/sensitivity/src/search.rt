@@ -28,7 +28,12 @@ impl Search {
     }
 
     /// Reads a member of a struct.
-    fn read_member(&mut self, structs: &StructTable, s: u32, member: &Member) -> Result<(), AllocError>
+    fn read_member(
+        &mut self,
+        structs: &StructTable,
+        s: u32,
+        member: &Member,
+    ) -> Result<(), AllocError>
         requires search { IsSearch structs.now self.old }
         requires member { IsMember structs.now s member.now }
         ensures search { OnOk result (IsSearch structs.now self.new) }
@@ -44,7 +49,12 @@ impl Search {
     }
 
     /// Reads the members of a struct.
-    fn read_members(&mut self, structs: &StructTable, s: u32, members: &[Member]) -> Result<(), AllocError>
+    fn read_members(
+        &mut self,
+        structs: &StructTable,
+        s: u32,
+        members: &[Member],
+    ) -> Result<(), AllocError>
         requires search { IsSearch structs.now self.old }
         requires body { body_of structs.now s ≡ Some members.now }
         ensures search { OnOk result (IsSearch structs.now self.new) }

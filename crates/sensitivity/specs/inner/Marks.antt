@@ -1,5 +1,5 @@
 -- The search for structs that hold code pointers: what is known of each, and which structs ask for which.
-use Rattle.std.specs.Prelude.{◌≡◌, ◌↔◌, ◌<◌, ℕ, Bool, true, false, IsTrue, is_some, List, [], Some, Contains, count_by, length, slice_get, slice_index_or}
+use Rattle.std.specs.Prelude.{◌≡◌, ◌<◌, ℕ, Bool, true, false, is_some, List, [], Some, Contains, count_by, length, slice_get, slice_index_or}
 use Rattle.c_types.specs.declared.structs.Member.{Member}
 use Rattle.c_types.specs.declared.structs.StructDef.{StructDef}
 use Rattle.c_types.specs.declared.ty.Ty.{Ty}

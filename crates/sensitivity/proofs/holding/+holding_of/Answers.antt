@@ -1,6 +1,6 @@
-use Rattle.std.proofs.Common.{◌∙◌, refl, sym, ap, subst}
+use Rattle.std.proofs.Common.{◌∙◌, sym, ap}
 use Rattle.c_types.specs.declared.ty.Ty.TheVariants as ty
-use Rattle.sensitivity.specs.Holds.{code, has_no_body, is_open, universal}
+use Rattle.sensitivity.specs.Holds.{code, has_no_body, universal}
 use Rattle.sensitivity.specs.Classes.{class_at}
 use Rattle.sensitivity.specs.inner.Marks.{here, is_universal_class}
 use Rattle.sensitivity.proofs.Forms.{code_of, universal_of}
@@ -25,7 +25,7 @@ returns-then-is_open t c =
     let u = c.get-target.result.now in
     let is = target_is c.args.ty.now u (c.in-Pointer.is ∙ ap ty.Pointer (sym c.get-target.ensures)) in
     λ defs tells. universal c.args.ty.now (universal_of defs c.args.ty.now u is
-        ∙ open_by (has_no_body defs) (λ s. is_universal_class (class_at c.args.of_structs.now s)) u (λ s. sym (tells s)) ∙ sym c.is_open.ensures ∙ c.if-is_open.true)
+    ∙ open_by (has_no_body defs) (λ s. is_universal_class (class_at c.args.of_structs.now s)) u (λ s. sym (tells s)) ∙ sym c.is_open.ensures ∙ c.if-is_open.true)
 
 pub returns-else-is_open : goal.returns-else-is_open
 returns-else-is_open t c =

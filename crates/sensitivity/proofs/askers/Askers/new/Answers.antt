@@ -1,4 +1,4 @@
-use Rattle.std.proofs.Common.{rules, ◌≡◌, ◌++◌, ◌∷◌, [], ℕ, List, sym, subst}
+use Rattle.std.proofs.Common.{rules, ◌≡◌, ◌++◌, ◌∷◌, [], ℕ, sym, subst}
 use Rattle.sensitivity.specs.inner.Marks.{Includes}
 use Rattle.sensitivity.proofs.Marking.{included_none}
 use Rattle.sensitivity.proofs.askers.Askers.new.Goals as goal

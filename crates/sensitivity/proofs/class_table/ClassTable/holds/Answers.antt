@@ -1,4 +1,4 @@
-use Rattle.std.proofs.Common.{◌∙◌, refl, sym, subst}
+use Rattle.std.proofs.Common.{◌∙◌, sym}
 use Rattle.sensitivity.proofs.ClassLaws.{table_always, table_no, table_never, table_yes}
 use Rattle.sensitivity.proofs.class_table.ClassTable.holds.Goals as goal
 

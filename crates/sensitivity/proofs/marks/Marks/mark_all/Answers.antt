@@ -1,4 +1,4 @@
-use Rattle.std.proofs.Common.{get_or, take, sym}
+use Rattle.std.proofs.Common.{take, sym}
 use Rattle.std.proofs.lemmas.List.{take_all}
 use Rattle.std.proofs.lemmas.List.Elements.{All-more, All-same, All-weaker}
 use Rattle.sensitivity.specs.inner.Marks.{IsMarked}

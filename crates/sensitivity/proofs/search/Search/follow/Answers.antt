@@ -1,8 +1,8 @@
-use Rattle.std.proofs.Common.{refl, sym, subst}
+use Rattle.std.proofs.Common.{sym, subst}
 use Rattle.std.specs.List.{Contains}
 use Rattle.std.proofs.lemmas.List.Elements.{All-contains}
 use Rattle.sensitivity.specs.inner.Marks.{IsMarked}
-use Rattle.sensitivity.proofs.SearchSteps.{askers_can, grows_marks, search_marks}
+use Rattle.sensitivity.proofs.SearchSteps.{askers_can, search_marks}
 use Rattle.sensitivity.proofs.search.Search.follow.Goals as goal
 
 pub returns-clause-search : goal.returns-clause-search

@@ -1,6 +1,6 @@
 use Rattle.std.proofs.Common.{sym, subst}
 use Rattle.sensitivity.specs.declared.holding.Holding.TheVariants as holding
-use Rattle.sensitivity.specs.inner.Marks.{IsHolding, TellsBodies}
+use Rattle.sensitivity.specs.inner.Marks.{TellsBodies}
 use Rattle.sensitivity.proofs.SearchSteps.{can_mark, follows, holding_in, search_add, search_marks}
 use Rattle.sensitivity.proofs.search.Search.read_member.Goals as goal
 

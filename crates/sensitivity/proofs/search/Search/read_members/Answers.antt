@@ -1,4 +1,4 @@
-use Rattle.std.proofs.Common.{get_or, take, sym, subst}
+use Rattle.std.proofs.Common.{take, sym, subst}
 use Rattle.std.proofs.lemmas.List.{take_all}
 use Rattle.std.proofs.lemmas.List.Elements.{All-more, All-same, All-weaker}
 use Rattle.sensitivity.specs.inner.Marks.{IsRead}
@@ -18,7 +18,7 @@ loop-member-preserved c =
       grows = grows_then c.args.self.now c.loop-member.self new c.loop-member.invariant.grows c.in_ok-read_member.ensures.grows;
       read = All-more (IsRead defs new c.args.s) c.args.members.now c.loop-member.member-index c.member-item.result c.loop-member-test.true
           (All-weaker (IsRead defs c.loop-member.self c.args.s) (IsRead defs new c.args.s) (λ m r. read_kept defs c.loop-member.self new c.args.s m c.in_ok-read_member.ensures.grows r)
-              (take c.loop-member.member-index c.args.members.now) c.loop-member.invariant.read)
+          (take c.loop-member.member-index c.args.members.now) c.loop-member.invariant.read)
           (subst (IsRead defs new c.args.s) c.member-item.is c.in_ok-read_member.ensures.read);
     }
 

@@ -1,4 +1,4 @@
-use Rattle.std.proofs.Common.{◌≡◌, ◌≤◌, ◌∙◌, None, length, slice_get, sym, arith}
+use Rattle.std.proofs.Common.{◌∙◌, sym, arith}
 use Rattle.sensitivity.proofs.Complete.{grows_then}
 use Rattle.sensitivity.proofs.SearchSteps.{count_few, followed_all, none_past, spread_more}
 use Rattle.sensitivity.proofs.search.Search.spread.Goals as goal
