@@ -7,9 +7,9 @@ use std::alloc::{AllocError, Global};
 use std::test::Fail;
 
 /// A function without parameters.
-fn function(alloc: Global, result: Ty) -> Result<Ty, AllocError> {
+fn function(alloc: Global, gives: Ty) -> Result<Ty, AllocError> {
     let params = Items::new(alloc);
-    Ok(Ty::Function(Shared::new(alloc, FnTy { result, params })?))
+    Ok(Ty::Function(Shared::new(alloc, FnTy { result: gives, params })?))
 }
 
 /// The type that a letter makes round another: `*` a pointer to it, a digit an array of so many, `f` a

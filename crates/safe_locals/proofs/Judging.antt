@@ -33,6 +33,9 @@ inside_is o units is =
 inside_true : (o : ℤ) (units : ℕ) → IsInside o units → is_inside o units ≡ true
 inside_true o units is = both_true (int_le (pos 0) o) (int_lt o (pos units)) (grind (arith, ints, is.0)) (grind (arith, ints, is.1))
 
+local_same : (v w : ℕ) (q o : ℤ) → mark.Address v q ≡ mark.Address w o → v ≡ w
+local_same v w q o f = cc
+
 module _ {code : List Outline} (u : ℕ) (marks : List Mark) (tell : (r : ℕ) → Tells code u r (mark_at marks r)) where
   -- ---- harmless operands
 
@@ -75,9 +78,9 @@ module _ {code : List Outline} (u : ℕ) (marks : List Mark) (tell : (r : ℕ) �
     module _ (k r : ℕ) (is : slice_get i.used k ≡ Some r) where
       -- the operand's mark, where it is an address
       use_mark : {v : ℕ} {o : ℤ} → IsUse code v u k o → mark_at marks r ≡ mark.Address v o
-      use_mark {v} {o} use =
-          let same : use.register ≡ r = same_Some use.register r (sym use.is ∙ ap (λ (x : Outline). slice_get x.used k) (one use.there there) ∙ is) in
-          address_mark (mark_at marks r) (tell r) (subst (λ x. Serves code 0 use.server u x) same use.serves) use.address
+      use_mark {v} {o} found =
+          let same : found.register ≡ r = same_Some found.register r (sym found.is ∙ ap (λ (x : Outline). slice_get x.used k) (one found.there there) ∙ is) in
+          address_mark (mark_at marks r) (tell r) (subst (λ x. Serves code 0 found.server u x) same found.serves) found.address
 
       mark_use : (v : ℕ) (o : ℤ) → mark_at marks r ≡ mark.Address v o → IsUse code v u k o
       mark_use v o e =
@@ -86,19 +89,19 @@ module _ {code : List Outline} (u : ℕ) (marks : List Mark) (tell : (r : ℕ) �
           record { server = s.0; register = r; instruction = i; address = t.right s.0 s.1; serves = s.1; there = there; is = is }
 
       until_less : {v n : ℕ} → IsSafeUntil code v n u (k + 1) → IsSafeUntil code v n u k
-      until_less all j q o use before = all j q o use (elim before [
+      until_less all j q o found before = all j q o found (elim before [
         | inl low ↦ inl low
         | inr at ↦ inr (at.0, omega (arith, at.1))
       ])
 
       until_more : {v n : ℕ} → IsSafeUntil code v n u k → ((o : ℤ) → IsUse code v u k o → IsHarmless code u k o n) → IsSafeUntil code v n u (k + 1)
-      until_more {v} {n} all now j q o use before = elim before [
-        | inl low ↦ all j q o use (inl low)
+      until_more {v} {n} all now j q o found before = elim before [
+        | inl low ↦ all j q o found (inl low)
         | inr at ↦ elim (cases_eq q k) [
           | inl e ↦
               subst (λ x. IsHarmless code x q o n) (sym at.0) (subst (λ x. IsHarmless code u x o n) (sym e)
-              (now o (subst (λ x. IsUse code v u x o) e (subst (λ x. IsUse code v x q o) at.0 use))))
-          | inr ne ↦ all j q o use (inr (at.0, omega (arith, at.1)))
+              (now o (subst (λ x. IsUse code v u x o) e (subst (λ x. IsUse code v x q o) at.0 found))))
+          | inr ne ↦ all j q o found (inr (at.0, omega (arith, at.1)))
         ]
       ]
 
@@ -107,7 +110,7 @@ module _ {code : List Outline} (u : ℕ) (marks : List Mark) (tell : (r : ℕ) �
         pub judged_same : ((v n : ℕ) (o : ℤ) → slice_get units v ≡ Some n → mark_at marks r ≡ mark.Address v o → is_harmless marks i.role k o n ≡ true) → AreJudged code units u (k + 1) safe
         judged_same fine = record {
           each = judged.each;
-          sound = λ v n at yes. until_more (judged.sound v n at yes) (λ o use. harmless_is i.role k o n (role_here there) (fine v n o at (use_mark use)));
+          sound = λ v n at yes. until_more (judged.sound v n at yes) (λ o found. harmless_is i.role k o n (role_here there) (fine v n o at (use_mark found)));
           complete = λ v n at all. judged.complete v n at (until_less all);
         }
 
@@ -121,20 +124,17 @@ module _ {code : List Outline} (u : ℕ) (marks : List Mark) (tell : (r : ℕ) �
               each = length-set safe w false ∙ judged.each;
               sound = λ v m there_v yes. elim (cases_eq v w) [
                 | inl same ↦ absurd (both_ways _ (ap (λ x. slice_index_or (slice_set safe w false) x false) same ∙ now) yes)
-                | inr ne ↦ until_more (judged.sound v m there_v (sym (other v ne) ∙ yes)) (λ q use. absurd (ne (local_same v w q o (sym (use_mark use) ∙ e))))
+                | inr ne ↦ until_more (judged.sound v m there_v (sym (other v ne) ∙ yes)) (λ q found. absurd (ne (local_same v w q o (sym (use_mark found) ∙ e))))
               ];
               complete = λ v m there_v all. elim (cases_eq v w) [
                 | inl same ↦
                     let units_same : m ≡ n = same_Some m n (sym there_v ∙ ap (λ x. slice_get units x) same ∙ at) in
-                    let use : IsUse code v u k o = subst (λ x. IsUse code x u k o) (sym same) (mark_use w o e) in
-                    let fine = harmless_true k o m (all u k o use (inr (refl, omega arith))) in
+                    let found : IsUse code v u k o = subst (λ x. IsUse code x u k o) (sym same) (mark_use w o e) in
+                    let fine = harmless_true k o m (all u k o found (inr (refl, omega arith))) in
                     absurd (both_ways _ harm (subst (λ x. is_harmless marks i.role k o x ≡ true) units_same fine))
                 | inr ne ↦ other v ne ∙ judged.complete v m there_v (until_less all)
               ];
             }
-          where
-            local_same : (v w : ℕ) (q o : ℤ) → mark.Address v q ≡ mark.Address w o → v ≡ w
-            local_same v w q o f = cc
 
 -- ---- the first place, the next, and the end
 
@@ -142,7 +142,7 @@ module _ {code : List Outline} where
   pub judged_first : (units : List ℕ) → AreJudged code units 0 0 (replicate (length units) true)
   judged_first units = record {
     each = length-replicate (length units) true;
-    sound = λ v n at yes k q o use before. elim before [
+    sound = λ v n at yes k q o found before. elim before [
       | inl low ↦ absurd (omega arith)
       | inr now ↦ absurd (omega (arith, now.1))
     ];
@@ -152,17 +152,17 @@ module _ {code : List Outline} where
   pub judged_next : (u operands : ℕ) (i : Outline) (units : List ℕ) (safe : List Bool) → Stands code 0 u i → length i.used ≤ operands → AreJudged code units u operands safe → AreJudged code units (u + 1) 0 safe
   judged_next u operands i units safe there all judged = record {
     each = judged.each;
-    sound = λ v n at yes k q o use before. judged.sound v n at yes k q o use (elim before [
+    sound = λ v n at yes k q o found before. judged.sound v n at yes k q o found (elim before [
       | inl low ↦ elim (cases_eq k u) [
         | inl e ↦
-            let within = slice_get_within use.instruction.used q use.register use.is in
-            let same : length use.instruction.used ≡ length i.used = ap (λ (x : Outline). length x.used) (one (subst (λ x. Stands code 0 x use.instruction) e use.there) there) in
+            let within = slice_get_within found.instruction.used q found.register found.is in
+            let same : length found.instruction.used ≡ length i.used = ap (λ (x : Outline). length x.used) (one (subst (λ x. Stands code 0 x found.instruction) e found.there) there) in
             inr (e, omega (arith, within, same, all))
         | inr ne ↦ inl (omega arith)
       ]
       | inr now ↦ absurd (omega (arith, now.1))
     ]);
-    complete = λ v n at safe_all. judged.complete v n at (λ k q o use before. safe_all k q o use (elim before [
+    complete = λ v n at safe_all. judged.complete v n at (λ k q o found before. safe_all k q o found (elim before [
       | inl low ↦ inl (omega arith)
       | inr now ↦ inl (omega (arith, now.0))
     ]));
@@ -175,6 +175,6 @@ module _ {code : List Outline} where
       λ yes s k q r o i address serves there is.
           judged.sound v n at yes k q o (record { server = s; register = r; instruction = i; address = address; serves = serves; there = there; is = is })
           (inl (omega (arith, stands_within there, end))),
-      λ all. judged.complete v n at (λ k q o use before. all use.server k q use.register o use.instruction use.address use.serves use.there use.is),
+      λ all. judged.complete v n at (λ k q o found before. all found.server k q found.register o found.instruction found.address found.serves found.there found.is),
     );
   }

@@ -14,6 +14,9 @@ use Rattle.safe_locals.specs.inner.Marks.{AreMarks, IsWithin, Makes, Tells, made
 use Rattle.safe_locals.proofs.Serving.{nothing_before, one_role, one_server, role_here, serves_less, serves_more, serves_now}
 use Rattle.safe_locals.proofs.Addresses.{by_role, one_address}
 
+const_same : (c d : ℤ) → role.Const c ≡ role.Const d → c ≡ d
+const_same c d e = cc
+
 module _ {code : List Outline} where
   number_no_address : {s v : ℕ} {c o : ℤ} → HasRole code 0 s (role.Const c) → IsAddress code s v o → ⊥
   number_no_address {s} {v} {c} {o} has a = by_role (role.Const c) has a
@@ -25,9 +28,6 @@ module _ {code : List Outline} where
       let same = one_address (t.right s serves) a in ap (λ x. mark.Address x q) same.0 ∙ ap (λ x. mark.Address v x) same.1
   address_mark (mark.Number c) t serves a = absurd (number_no_address (t.right _ serves) a)
   address_mark mark.Other t serves a = absurd ((t.right _ serves).1 _ _ a)
-
-  const_same : (c d : ℤ) → role.Const c ≡ role.Const d → c ≡ d
-  const_same c d e = cc
 
   pub number_mark : {u r s : ℕ} {c : ℤ} (m : Mark) → Tells code u r m → Serves code 0 s u r → HasRole code 0 s (role.Const c) → m ≡ mark.Number c
   number_mark {u} {r} {s} {c} (mark.Number d) t serves has = ap mark.Number (const_same d c (one_role (t.right s serves) has))

@@ -2,10 +2,10 @@
 #![tactic(auto)]
 
 mod body;
+mod functions;
 mod mark;
 mod marks;
 mod operands;
-mod safe;
 
 pub use body::safe_in;
-pub use safe::{SafeTable, safe, safe_all};
+pub use functions::{SafeTable, safe, safe_all};

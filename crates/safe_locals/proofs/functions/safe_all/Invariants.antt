@@ -1,7 +1,7 @@
 use Rattle.std.proofs.Common.{◌≡◌, ℕ, Bool, List, Some, length, slice_get}
 use Rattle.core_ir.specs.declared.program.Function.{Function}
 use Rattle.safe_locals.specs.Safe.{AreSafe}
-use Rattle.safe_locals.proofs.safe.safe_all.Given as goal
+use Rattle.safe_locals.proofs.functions.safe_all.Given as goal
 
 abbrev pub invariant-loop-function : goal.invariant-loop-function
 invariant-loop-function l = record {
