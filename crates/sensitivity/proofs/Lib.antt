@@ -1,0 +1,6 @@
+mod Forms
+mod HoldingByForm
+mod Marking
+mod Complete
+mod SearchSteps
+mod ClassLaws

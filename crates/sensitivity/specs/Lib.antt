@@ -1,0 +1,4 @@
+pub mod Holds
+pub mod Classes
+pub mod Theorems
+pub mod inner

@@ -1,0 +1,18 @@
+//! The laws of classes.
+
+ghost use Rattle.sensitivity.specs.Theorems.{ArraysAreAsTheirElements, ClassesAreUnique, PointersHold};
+
+/// No type has two classes.
+pub fn classes_are_unique()
+    ensures { ClassesAreUnique }
+{}
+
+/// A pointer holds code pointers exactly where its class isn't regular.
+pub fn pointers_hold()
+    ensures { PointersHold }
+{}
+
+/// A pointer to an array has the class of a pointer to its element.
+pub fn arrays_are_as_their_elements()
+    ensures { ArraysAreAsTheirElements }
+{}
