@@ -28,18 +28,7 @@ use Rattle.c_typed_rows.specs.Contexts.{Name, Signature, defined_as}
 use Rattle.c_typed_rows.specs.Sources.{are_distinct}
 use Rattle.c_typing_laws.specs.Worlds.{defined_by, defined_in}
 use Rattle.c_typing_laws.proofs.DeclarationsMeetRows.{function_of-is}
-
--- ---- steps of a walk that breaks no rule
-
-pub split : {A B : Type 0} (o : Outcome (A × World)) (f : A → Walk B) (r : B × World) → and_then o f ≡ Ok r → (a : A × World) × ((o ≡ Ok a) × (f a.0 a.1 ≡ Ok r))
-split (Ok a) f r is = (a, (refl, is))
-split (Err e) f r is = cc
-
-abbrev pub answered : {A : Type 0} → A → World → Outcome (A × World)
-answered a w = Ok (a, w)
-
-pub ended : {A : Type 0} (a : A) (w : World) (r : A × World) → answered a w ≡ Ok r → (let s : A × World = (a, w) in s) ≡ r
-ended a w r is = cc
+use Rattle.c_typing_laws.proofs.FoundSteps.{ended, split}
 
 -- ---- tests
 
@@ -207,10 +196,12 @@ same-of f g = ap (λ t. same t (ty.Function g)) (sym (ty.rolls-Function f))
 inside : (o : Outer) (f g : FnTy) → o ≡ Ty-F.Function f → o ≡ Ty-F.Function g → f ≡ g
 inside o f g one other = cc
 
+-- functions that are one type are one
+pub one-function : (f g : FnTy) → ty.Function f ≡ ty.Function g → f ≡ g
+one-function f g one = inside (out-Ty (ty.Function f)) f g (out-function f) (ap out-Ty one ∙ out-function g)
+
 pub same-function : SameIsEquality → (f g : FnTy) → same_function f g ≡ true → f ≡ g
-same-function law f g is =
-    let one : ty.Function f ≡ ty.Function g = (law (ty.Function f) (ty.Function g)).0 (same-of f g ∙ is) in
-    inside (out-Ty (ty.Function f)) f g (out-function f) (ap out-Ty one ∙ out-function g)
+same-function law f g is = one-function f g ((law (ty.Function f) (ty.Function g)).0 (same-of f g ∙ is))
 
 -- ---- a function that may be defined
 

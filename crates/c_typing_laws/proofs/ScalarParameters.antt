@@ -5,7 +5,7 @@ use Rattle.std.specs.Option.{ok_or}
 use Rattle.c_layers.specs.declared.layer.Layer.{Layer}
 use Rattle.c_layers.specs.declared.layer.Layer.TheVariants as layer
 use Rattle.c_layers.specs.declared.layer.Parameter.{Parameter}
-use Rattle.c_layers.specs.Shapes.{stars_of}
+use Rattle.c_layers.specs.Shapes.{adjusted, results_fit, shaped, stars_of, whole_of}
 use Rattle.c_tree.specs.declared.expression.Direct.{Direct, roll-Direct, map-Direct}
 use Rattle.c_tree.specs.declared.expression.Expr.{Expr}
 use Rattle.c_tree.specs.declared.expression.Param.{Param, roll-Param, map-Param}
@@ -28,16 +28,18 @@ use Rattle.c_typed.specs.declared.expression.TypedDirect.{TypedDirect}
 use Rattle.c_typed.specs.declared.expression.TypedParam.{TypedParam}
 use Rattle.c_typed.specs.declared.expression.TypedParams.{TypedParams}
 use Rattle.c_typed.specs.declared.expression.TypedSuffix.{TypedSuffix}
-use Rattle.c_scope.specs.declared.rule.Rule.{Rule}
 use Rattle.c_scope.specs.declared.rule.Rule.TheVariants as broken
 use Rattle.c_scope.specs.declared.world.World.{World}
-use Rattle.c_scope.specs.Declarations.{bind_parameter, parameter}
-use Rattle.c_scope.specs.Walk.{Outcome, Walk, and_then, each_pair, rule}
+use Rattle.c_scope.specs.Declarations.{bind_parameter, may_be_parameter, parameter}
+use Rattle.c_scope.specs.Walk.{Walk, each_pair, found, rule}
 use Rattle.c_rules.specs.declared.place.Place.TheVariants.{Value}
 use Rattle.c_expr_typing.specs.declared.layered.LayeredDeclarator.{LayeredDeclarator}
-use Rattle.c_expr_typing.specs.Trees.{typed_declarator, walked}
+use Rattle.c_expr_typing.specs.Trees.{OfExpr, bounded, constant_bound, typed_declarator, walked}
+use Rattle.c_operators.specs.Operators.{constant_of}
+use Rattle.c_typed.specs.declared.expression.TypedSuffix.TheVariants as suffix
 use Rattle.c_typed_rows.specs.Contexts.{Name}
-use Rattle.c_typing_laws.specs.inner.Yields.{Yields, after, at_once, inside_scope, map_twice, never, whatever}
+use Rattle.c_typing_laws.specs.inner.Yields.{Yields, after, at_once, inside_scope, map_twice, whatever}
+use Rattle.c_typing_laws.proofs.FoundSteps.{ended, rule-found, split}
 use Rattle.c_typing_laws.proofs.KeptNodes.{walked-declarator, walked-direct, walked-param, walked-params, walked-suffix}
 
 -- ---- units of scalars
@@ -75,22 +77,22 @@ stars-scalar (suc n) = (tt, tt)
 
 -- ---- walks
 
-ruled : {A : Type 0} {Q : A → Type 0} {w : World} (r : Rule) (b : Bool) (f : Unit {0} → Walk A) → (b ≡ true → Yields (f tt w) Q) → Yields (and_then (rule r b w) f) Q
-ruled r true f goes = goes refl
-ruled r false f goes = never
-
 both : (a b : Bool) → (a && b) ≡ true → (a ≡ true) × (b ≡ true)
 both true b is = (refl, is)
 both false b is = cc
 
-parameter-scalar : (x : Option Name) (base : Ty) (ls : List Layer) (w : World) → Yields (parameter x base ls w) (λ t. is_scalar t ≡ true)
+parameter-found : (x : Option Name) (base : Ty) (ls : List Layer) (w : World) (r : Ty × World) → parameter x base ls w ≡ Ok r → is_scalar r.0 ≡ true
 unfolding parameter
-parameter-scalar x base ls w =
-    whatever _ _ (λ _ v.
-    whatever _ _ (λ t u.
-    ruled broken.Form _ _ (λ holds.
-    whatever (bind_parameter x t u) _ (λ _ s.
-    at_once (both _ (is_scalar t) holds).1))))
+parameter-found x base ls w r is =
+    let a = split (rule broken.Redeclared (may_be_parameter w x) w) _ r is in
+    let b = split (found broken.Unsized (whole_of (adjusted (shaped w.structs base ls))) a.0.1) _ r a.1.1 in
+    let c = split (rule broken.Form (results_fit w.structs base ls && is_scalar b.0.0) b.0.1) _ r b.1.1 in
+    let d = split (bind_parameter x b.0.0 c.0.1) _ r c.1.1 in
+    subst (λ (e : Ty × World). is_scalar e.0 ≡ true) (ended b.0.0 d.0.1 r d.1.1)
+    (both (results_fit w.structs base ls) (is_scalar b.0.0) (rule-found broken.Form (results_fit w.structs base ls && is_scalar b.0.0) b.0.1 c.0 c.1.0).0).1
+
+parameter-scalar : (x : Option Name) (base : Ty) (ls : List Layer) (w : World) → Yields (parameter x base ls w) (λ t. is_scalar t ≡ true)
+parameter-scalar x base ls w = record { found = parameter-found x base ls w }
 
 each_pair-all : {A B H : Type 0} (Q : B → Type 0) (p : H → Walk (A × B)) → ((h : H) (w : World) → Yields (p h w) (λ x. Q x.1))
     → (hs : List H) (w : World) → Yields (each_pair (map p hs) w) (λ xs. AllByRecursion Q xs.1)
@@ -186,9 +188,15 @@ direct-scalar : (y : Scalar Direct-F) → ScalarDirect (roll-Direct (bare_direct
 direct-scalar (Direct-F.Name x) = λ w. along OfDirect w (walked-direct (Direct-F.Name x)) (at_once tt)
 direct-scalar (Direct-F.Bracketed d) = λ w. along OfDirect w (walked-direct (Direct-F.Bracketed d.0)) (after _ _ (d.1 w) (λ x v is. at_once is))
 
+bounded-found : (e : OfExpr) (w : World) (r : (TypedSuffix × Layer) × World) → bounded e w ≡ Ok r → OfSuffix r.0
+bounded-found e w r is =
+    let a = split (e Value w) _ r is in
+    let b = split (constant_bound (constant_of a.0.0) a.0.1) _ r a.1.1 in
+    subst (λ (s : (TypedSuffix × Layer) × World). OfSuffix s.0) (ended (suffix.Array (Some a.0.0), layer.Array (Some b.0.0)) b.0.1 r b.1.1) tt
+
 suffix-scalar : (y : Scalar Suffix-F) → ScalarSuffix (roll-Suffix (bare_suffix y))
 suffix-scalar (Suffix-F.Array None) = λ w. along OfSuffix w (walked-suffix (Suffix-F.Array None)) (at_once tt)
-suffix-scalar (Suffix-F.Array (Some e)) = λ w. along OfSuffix w (walked-suffix (Suffix-F.Array (Some e.0))) (whatever _ _ (λ x v. whatever _ _ (λ n u. at_once tt)))
+suffix-scalar (Suffix-F.Array (Some e)) = λ w. along OfSuffix w (walked-suffix (Suffix-F.Array (Some e.0))) (record { found = bounded-found (walked.expr e.0) w })
 suffix-scalar (Suffix-F.Function p) = λ w. along OfSuffix w (walked-suffix (Suffix-F.Function p.0)) (after _ _ (p.1 w) (λ x v is. at_once is))
 
 suffixes-scalar : (hs : List WithSuffix) (w : World) → Yields (each_pair (map walked.suffix (map (λ (h : WithSuffix). h.0) hs)) w) (λ xs. LayersScalar xs.1)
@@ -200,13 +208,13 @@ declarator-scalar : (y : Scalar Declarator-F) → ScalarDeclarator (roll-Declara
 declarator-scalar y = λ w. along OfDeclarator w (walked-declarator (bare_declarator y))
     (after _ _ (y.direct.1 w) (λ x v is.
     after _ _ (suffixes-scalar y.suffixes v) (λ ss u also.
-    at_once (layers-joined x.2 (ss.1 ++ stars_of y.stars) is (layers-joined ss.1 (stars_of y.stars) also (stars-scalar y.stars))))))
+    at_once (layers-joined (x.2 ++ ss.1) (stars_of y.stars) (layers-joined x.2 ss.1 is also) (stars-scalar y.stars)))))
 
 param-scalar : (y : Scalar Param-F) → ScalarParam (roll-Param (bare_param y))
 param-scalar (Param-F.Named s d) = λ w. along OfParam w (walked-param (Param-F.Named s.0 d.0))
-    (whatever _ _ (λ base v. whatever _ _ (λ x u. after _ _ (parameter-scalar (Some x.name) base.1 x.layers u) (λ t r is. at_once is))))
+    (whatever (walked.spec s.0 false w) _ (λ base v. whatever (walked.declarator d.0 v) _ (λ x u. after _ _ (parameter-scalar (Some x.name) base.1 x.layers u) (λ t r is. at_once is))))
 param-scalar (Param-F.Unnamed s a) = λ w. along OfParam w (walked-param (Param-F.Unnamed s.0 a.0))
-    (whatever _ _ (λ base v. whatever _ _ (λ x u. after _ _ (parameter-scalar None base.1 x.1 u) (λ t r is. at_once is))))
+    (whatever (walked.spec s.0 false w) _ (λ base v. whatever (walked.abstract a.0 v) _ (λ x u. after _ _ (parameter-scalar None base.1 x.1 u) (λ t r is. at_once is))))
 
 params-go : (hs : List WithParam) (w : World) → Yields (each_pair (map walked.param (map (λ (h : WithParam). h.0) hs)) w) (λ xs. AllByRecursion IsScalarParameter xs.1)
 params-go hs w =
