@@ -1,10 +1,10 @@
 -- What the definition of a function leaves of those that are defined.
-use Rattle.std.proofs.Common.{◌≡◌, ◌∙◌, ℕ, Bool, true, false, not, ◌&&◌, if◌then◌else◌, IsTrue, List, [], ◌∷◌, ◌++◌, Option, Some, None, is_none, Ok, Err, refl, ap, sym, subst}
+use Rattle.std.proofs.Common.{◌≡◌, ◌∙◌, Bool, true, false, not, ◌&&◌, if◌then◌else◌, IsTrue, List, [], ◌∷◌, ◌++◌, Option, Some, None, is_none, Ok, refl, ap, sym, subst}
 use Rattle.std.specs.Str.{bytes_eq}
 use Rattle.std.proofs.lemmas.Slice.Eq.{bytes_eq-Decides}
 use Rattle.c_layers.specs.declared.layer.Shape.{Shape}
 use Rattle.c_layers.specs.declared.layer.Shape.TheVariants as shape
-use Rattle.c_layers.specs.Shapes.{is_function_shape, whole_of}
+use Rattle.c_layers.specs.Shapes.{whole_of}
 use Rattle.c_types.specs.declared.ty.FnTy.{FnTy}
 use Rattle.c_types.specs.declared.ty.Ty.{Ty, fold-roll-Ty, out-Ty, out-roll-Ty}
 use Rattle.c_types.specs.declared.ty.Ty.TheOpen.{Ty-F}
@@ -22,7 +22,7 @@ use Rattle.c_scope.specs.BuiltIns.{built_in_named}
 use Rattle.c_scope.specs.Declarations.{agrees, is_free, is_free_for_function, is_type_name, may_be_declared, may_be_function, may_be_function_by}
 use Rattle.c_scope.specs.Definitions.{bind_function, declare_function, declare_function_by, is_bound_here, is_undefined_function, make_known, make_known_by, marked, may_be_defined}
 use Rattle.c_scope.specs.Scopes.{bind, innermost, known_function, meaning_here, meaning_of, with_function}
-use Rattle.c_scope.specs.Walk.{Outcome, Walk, ◌>>=◌, ◌>>◌, and_then, found, pure, rule}
+use Rattle.c_scope.specs.Walk.{Walk, ◌>>◌, and_then, found, pure, rule}
 use Rattle.c_typing.specs.Functions.{defined_type}
 use Rattle.c_typed_rows.specs.Contexts.{Name, Signature, defined_as}
 use Rattle.c_typed_rows.specs.Sources.{are_distinct}

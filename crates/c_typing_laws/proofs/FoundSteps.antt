@@ -1,5 +1,5 @@
 -- The steps of a walk that breaks no rule.
-use Rattle.std.proofs.Common.{◌≡◌, Bool, true, false, Option, Some, None, Ok, Err, refl, ap, subst}
+use Rattle.std.proofs.Common.{◌≡◌, Bool, true, false, Option, Some, None, Ok, Err, refl, ap}
 use Rattle.c_scope.specs.declared.rule.Rule.{Rule}
 use Rattle.c_scope.specs.declared.world.World.{World}
 use Rattle.c_scope.specs.Walk.{Outcome, Walk, and_then, found, rule}

@@ -7,7 +7,6 @@ use Rattle.c_tree.specs.declared.statement.Stmt.{Stmt, roll-Stmt, map-Stmt, fold
 use Rattle.c_tree.specs.declared.statement.Block.{Block, roll-Block, map-Block, fold-roll-Block, ind-Block}
 use Rattle.c_tree.specs.declared.statement.ForLoop.{ForLoop}
 use Rattle.c_tree.specs.declared.statement.BlockItem.TheOpen.{Block-F, BlockItem-F, Stmt-F}
-use Rattle.c_tree.specs.declared.statement.FullExpr.{FullExpr}
 use Rattle.c_tree.specs.FoldStatements.{PlainStatements, StatementNode, fold_statements}
 use Rattle.c_typed.specs.declared.statement.TypedBlock.{TypedBlock, roll-TypedBlock, fold-roll-TypedBlock}
 use Rattle.c_typed.specs.declared.statement.TypedBlockItem.{TypedBlockItem, roll-TypedBlockItem, map-TypedBlockItem, fold-TypedBlockItem, fold-roll-TypedBlockItem}
