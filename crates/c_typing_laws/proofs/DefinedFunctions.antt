@@ -27,18 +27,11 @@ use Rattle.c_typing.specs.Functions.{defined_type}
 use Rattle.c_typed_rows.specs.Contexts.{Name, Signature, defined_as}
 use Rattle.c_typed_rows.specs.Sources.{are_distinct}
 use Rattle.c_typing_laws.specs.Worlds.{defined_by, defined_in}
+use Rattle.c_typing_laws.proofs.Conjunctions.{both, both_true}
 use Rattle.c_typing_laws.proofs.DeclarationsMeetRows.{function_of-is}
 use Rattle.c_typing_laws.proofs.FoundSteps.{ended, split}
 
 -- ---- tests
-
-both : (a b : Bool) → (a && b) ≡ true → (a ≡ true) × (b ≡ true)
-both true b is = (refl, is)
-both false b is = cc
-
-both_true : (a b : Bool) → a ≡ true → b ≡ true → (a && b) ≡ true
-both_true true b first second = second
-both_true false b first second = cc
 
 unequal : (P : Type 0) → true ≡ false → P
 unequal P is = cc

@@ -15,6 +15,7 @@ use Rattle.c_types.specs.Kinds.{is_function, is_scalar, is_void}
 use Rattle.c_types.specs.Parts.{most_parts, parts}
 use Rattle.c_typing.specs.Functions.{is_definition}
 use Rattle.c_typed_rows.specs.Sources.{IsFunctionType}
+use Rattle.c_typing_laws.proofs.Conjunctions.{both, both_true}
 use Rattle.c_typing_laws.proofs.DefinedFunctions.{one-function}
 use Rattle.c_typing_laws.proofs.ScalarParameters.{IsScalarParameter, LayersScalar}
 
@@ -39,14 +40,6 @@ called-is ts (shape.Open t) f is = cc
 called-is ts (shape.Broken b) f is = cc
 
 -- ---- types
-
-both : (a b : Bool) → (a && b) ≡ true → (a ≡ true) × (b ≡ true)
-both true b is = (refl, is)
-both false b is = cc
-
-both_true : (a b : Bool) → a ≡ true → b ≡ true → (a && b) ≡ true
-both_true true b first second = second
-both_true false b first second = cc
 
 all-scalar : (ps : List Parameter) → AllByRecursion IsScalarParameter ps → list_all is_scalar (map (λ p. p.ty) ps) ≡ true
 all-scalar [] scalar = refl

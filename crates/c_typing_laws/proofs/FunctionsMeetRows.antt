@@ -40,6 +40,7 @@ use Rattle.c_typed_rows.specs.Statements.{IsTypedBlock, jumps_out}
 use Rattle.c_typing_laws.specs.Worlds.{AreFirst, Below, HaveNoParameter, IsFile, LocalStands, ScopesFit, local_types}
 use Rattle.c_typing_laws.specs.inner.Goes.{Goes, after, ends, weaker}
 use Rattle.c_typing_laws.specs.inner.TypedTrees.{IsTypedDeclarator}
+use Rattle.c_typing_laws.proofs.Conjunctions.{both, both_true}
 use Rattle.c_typing_laws.proofs.DeclarationsMeetRows as locals
 use Rattle.c_typing_laws.proofs.DeclarationsMeetRows.{HaveUnits, declared-ty, naming, types-wider, units-stay, widening}
 use Rattle.c_typing_laws.proofs.DeclaredNames.{declared-name}
@@ -127,14 +128,6 @@ module _ (fs : List Signature) where
 
   weaken : {A : Type 0} {P Q : Context → A → Type 0} (gs : List Ty) (w : World) (o : Outcome (A × World)) → ((k : Context) (a : A) → P k a → Q k a) → FileStays fs gs w o P → FileStays fs gs w o Q
   weaken gs w o less stays = record { found = λ r is file. let h = stays.found r is file in (h.0, λ k ahead below. let m = h.1 k ahead below in (m.0, less k r.0 m.1)) }
-
-both : (a b : Bool) → (a && b) ≡ true → (a ≡ true) × (b ≡ true)
-both true b is = (refl, is)
-both false b is = cc
-
-both_true : (a b : Bool) → a ≡ true → b ≡ true → (a && b) ≡ true
-both_true true b first second = second
-both_true false b first second = cc
 
 units-listed : (k : Context) (ls : List Local) → HaveUnits k.structs (map (λ l. l.ty) ls) → list_all (λ l. has_units k.structs l.ty) ls ≡ true
 units-listed k [] all = refl

@@ -39,6 +39,7 @@ use Rattle.c_typed_rows.specs.Sources.{Global, HasMain, IsTyped, IsTypedItem, ar
 use Rattle.c_typing_laws.specs.Worlds.{AreFirst, Below, IsFile, defined_by}
 use Rattle.c_typing_laws.specs.inner.Goes.{Goes, ends, finds, ruled, weaker}
 use Rattle.c_typing_laws.specs.inner.TypedTrees.{IsTypedDeclarator}
+use Rattle.c_typing_laws.proofs.Conjunctions.{both}
 use Rattle.c_typing_laws.proofs.DeclarationsMeetRows as locals
 use Rattle.c_typing_laws.proofs.FileDeclarationsMeetRows as file
 use Rattle.c_typing_laws.proofs.FileDeclarationsMeetRows.{FileGoes, FileStays, decl-file, ends_file, first-behind, numbered-joined, of_defining, of_naming, of_quiet, types-regroup, types_of}
@@ -74,10 +75,6 @@ signed_by_first (item.Typedef s ds) xs = refl
 signed_by_first (item.Function f) xs = refl
 
 -- ---- behind the last item
-
-both : (a b : Bool) → (a && b) ≡ true → (a ≡ true) × (b ≡ true)
-both true b is = (refl, is)
-both false b is = cc
 
 undefined_none : (b : Bool) (n : ℕ) (o : Option ℕ) → (if b then Some n else o) ≡ None → (b ≡ false) × (o ≡ None)
 undefined_none true n o is = cc

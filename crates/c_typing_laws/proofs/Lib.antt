@@ -8,6 +8,7 @@ mod DeclarationsKeepTrees
 mod StatementsKeepTrees
 mod SourcesKeepTrees
 mod TypedParts
+mod Conjunctions
 mod FoundSteps
 mod WorldSteps
 mod RowsStay
@@ -28,3 +29,4 @@ mod JumpsInside
 mod ScalarParameters
 mod DefinedFunctions
 mod ItemsMeetRows
+mod BodiesDefined

@@ -39,6 +39,7 @@ use Rattle.c_operators.specs.Operators.{constant_of}
 use Rattle.c_typed.specs.declared.expression.TypedSuffix.TheVariants as suffix
 use Rattle.c_typed_rows.specs.Contexts.{Name}
 use Rattle.c_typing_laws.specs.inner.Yields.{Yields, after, at_once, inside_scope, map_twice, whatever}
+use Rattle.c_typing_laws.proofs.Conjunctions.{both}
 use Rattle.c_typing_laws.proofs.FoundSteps.{ended, rule-found, split}
 use Rattle.c_typing_laws.proofs.KeptNodes.{walked-declarator, walked-direct, walked-param, walked-params, walked-suffix}
 
@@ -76,10 +77,6 @@ stars-scalar zero = tt
 stars-scalar (suc n) = (tt, tt)
 
 -- ---- walks
-
-both : (a b : Bool) → (a && b) ≡ true → (a ≡ true) × (b ≡ true)
-both true b is = (refl, is)
-both false b is = cc
 
 parameter-found : (x : Option Name) (base : Ty) (ls : List Layer) (w : World) (r : Ty × World) → parameter x base ls w ≡ Ok r → is_scalar r.0 ≡ true
 unfolding parameter

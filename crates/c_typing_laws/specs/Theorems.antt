@@ -1,13 +1,17 @@
 -- What holds of the typed forms of sources, and of what each walk finds.
-use Rattle.std.specs.Prelude.{◌≡◌, Bool, true, false, List, [], ◌∷◌, ◌++◌, length, map, Some, Ok}
+use Rattle.std.specs.Prelude.{◌≡◌, ℕ, Bool, true, false, ◌&&◌, IsTrue, List, [], ◌∷◌, ◌++◌, length, map, Some, Ok}
 use Rattle.c_tree.specs.declared.expression.Declarator.{Declarator}
 use Rattle.c_tree.specs.declared.expression.Expr.{Expr}
+use Rattle.c_tree.specs.declared.expression.MemberDecl.{MemberDecl}
 use Rattle.c_tree.specs.declared.statement.Block.{Block}
 use Rattle.c_tree.specs.declared.statement.Decl.{Decl}
 use Rattle.c_tree.specs.declared.statement.Init.{Init}
 use Rattle.c_tree.specs.declared.statement.Unit.{Unit as Source}
+use Rattle.c_types.specs.declared.structs.Member.{Member}
 use Rattle.c_types.specs.declared.ty.Ty.{Ty}
+use Rattle.c_types.specs.Sound.{are_members}
 use Rattle.c_typed.specs.declared.expression.TypedExpr.{TypedExpr}
+use Rattle.c_typed.specs.declared.expression.TypedMemberDecl.{TypedMemberDecl}
 use Rattle.c_typed.specs.declared.expression.TypedSpec.{TypedSpec}
 use Rattle.c_typed.specs.declared.statement.TypedBlock.{TypedBlock}
 use Rattle.c_typed.specs.declared.statement.TypedDecl.{TypedDecl}
@@ -16,14 +20,15 @@ use Rattle.c_typed.specs.declared.unit.Typed.{Typed}
 use Rattle.c_typed.specs.declared.unit.TypedFn.{TypedFn}
 use Rattle.c_typed.specs.Erased.{erased}
 use Rattle.c_scope.specs.declared.world.World.{World}
+use Rattle.c_scope.specs.Declarations.{is_undefined}
 use Rattle.c_rules.specs.declared.place.Place.TheVariants.{Value}
-use Rattle.c_expr_typing.specs.Trees.{typed_expr}
+use Rattle.c_expr_typing.specs.Trees.{body_tag, members, typed_expr, walked}
 use Rattle.c_typing.specs.Declarations.{typed_decl}
 use Rattle.c_typing.specs.Functions.{typed_function}
 use Rattle.c_typing.specs.Initialisers.{typed_init}
 use Rattle.c_typing.specs.Statements.{typed_block}
 use Rattle.c_typing.specs.Theorems.{HasForm}
-use Rattle.c_typed_rows.specs.Contexts.{Context, Signature}
+use Rattle.c_typed_rows.specs.Contexts.{Context, Name, Signature}
 use Rattle.c_typed_rows.specs.Expressions.{IsTypedSpec, IsTypedValue}
 use Rattle.c_typed_rows.specs.Initialisers.{IsTypedInit}
 use Rattle.c_typed_rows.specs.Sources.{IsTyped, IsTypedFn, are_numbered, declared_globals, signature}
@@ -64,6 +69,21 @@ pub record LeavesFile (before : List Ty) (fs : List Signature) (f : TypedFn) (ne
 -- the typed form of a source meets all rows, among its own functions, global variables, structs and strings
 abbrev pub TypedSourcesAreTyped : Type 0
 TypedSourcesAreTyped = (s : Source) (t : Typed) → HasForm s t → IsTyped t
+
+-- ---- bodies of structs
+
+-- where a body may stand and the members break no rule, the test before the struct gets the body holds, so no source breaks a
+-- rule by it
+abbrev pub StructsGetTheirBodies : Type 0
+StructsGetTheirBodies =
+    (before : List Ty) (fs : List Signature) (x : Name) (ms : List MemberDecl) (w v new : World) (n : ℕ)
+    (body : List TypedMemberDecl × List Member)
+    → IsFile before fs w
+    → body_tag x true w ≡ Ok (n, v)
+    → members (map walked.member ms) [] v ≡ Ok (body, new)
+    → IsTrue (is_undefined new.structs n && are_members new.structs body.1)
+
+-- ---- walks
 
 -- what the walk of a tree finds meets the rows of each of its levels, in each context that has what is known
 pub record WalksMeetRows : Type 0 where

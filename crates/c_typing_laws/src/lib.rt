@@ -3,4 +3,6 @@
 
 mod theorems;
 
-pub use theorems::{typed_sources_are_typed, typed_sources_keep_their_trees, walks_meet_rows};
+pub use theorems::{
+    structs_get_their_bodies, typed_sources_are_typed, typed_sources_keep_their_trees, walks_meet_rows,
+};

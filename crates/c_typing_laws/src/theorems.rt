@@ -1,6 +1,7 @@
 //! What holds of the typed form of every source, and of what each walk finds.
 
-ghost use Rattle.c_typing_laws.specs.Theorems.{TypedSourcesAreTyped, TypedSourcesKeepTheirTrees, WalksMeetRows};
+ghost use Rattle.c_typing_laws.specs.Theorems.{StructsGetTheirBodies, TypedSourcesAreTyped};
+ghost use Rattle.c_typing_laws.specs.Theorems.{TypedSourcesKeepTheirTrees, WalksMeetRows};
 
 use c_types::{same_is_equality, tables_grow, units_stay};
 
@@ -8,6 +9,14 @@ use c_types::{same_is_equality, tables_grow, units_stay};
 pub fn typed_sources_keep_their_trees()
     ensures { TypedSourcesKeepTheirTrees }
 {}
+
+/// Where a struct's body may stand and its members break no rule, the test before the struct gets the body holds.
+pub fn structs_get_their_bodies()
+    ensures { StructsGetTheirBodies }
+{
+    units_stay();
+    tables_grow();
+}
 
 /// What the walk of an expression, an initialiser, a declaration of a function's body or a block finds meets the row of each
 /// of its levels, in each context that has what is known behind the walk.
