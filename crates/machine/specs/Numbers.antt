@@ -60,10 +60,10 @@ computed_one _ x = int_wrapping_neg w64 x
 -- ---- kinds
 
 -- what of a number a value of this kind has
-abbrev pub cut : Kind → ℤ → ℤ
-cut kind.Int n = n
-cut kind.Char n = pos (low_word n % 256)
-cut _ n = pos (low_word n)
+abbrev pub truncated : Kind → ℤ → ℤ
+truncated kind.Int n = n
+truncated kind.Char n = pos (low_word n % 256)
+truncated _ n = pos (low_word n)
 
 -- its values stand in the safe store
 abbrev pub is_kept : Kind → Bool

@@ -1,6 +1,6 @@
 -- The unprotected machine: C on one memory, where return words stand too. Its turns are over the values of a domain: numbers
 -- alone, or numbers with shadows.
-use Rattle.std.specs.Prelude.{ℕ, suc, ℤ, pos, negsuc, ◌+◌, ◌-◌, ◌*◌, ◌%◌, ◌^◌, true, ◌&&◌, if◌then◌else◌, nat_lt, nat_le, List, [], ◌∷◌, length, replicate, Option, Some, None, slice_get, slice_set}
+use Rattle.std.specs.Prelude.{ℕ, suc, ℤ, pos, negsuc, ◌+◌, ◌-◌, ◌*◌, ◌%◌, ◌^◌, Bool, true, not, ◌&&◌, if◌then◌else◌, nat_eq, nat_lt, nat_le, List, [], ◌∷◌, length, replicate, Option, Some, None, slice_get, slice_set}
 use Rattle.std.specs.FinMap.{empty, insert}
 use Rattle.std.specs.Ordering.{int_eq}
 use Rattle.core_ir.specs.Typed.{start_type}
@@ -19,7 +19,7 @@ use Rattle.machine.specs.declared.code.Kind.{Kind}
 use Rattle.machine.specs.declared.code.Kind.TheVariants as kind
 use Rattle.machine.specs.Domain.{Callee, Domain, Reaches, Refused}
 use Rattle.machine.specs.Frames.{Frame, Thread, Waiting, Starting, Running, Stopped, Effect, Stops, Goes, Enters, Leaves, Nothing, ToObject, has_begun, is_live}
-use Rattle.machine.specs.Numbers.{cut, is_kept, is_zero, low_word}
+use Rattle.machine.specs.Numbers.{is_kept, is_zero, low_word, truncated}
 use Rattle.machine.specs.Protected.{argument_address, done_address, finds_zero, give_action, is_no_thread, is_thread_number, slots_for, start_address, word_of}
 use Rattle.machine.specs.Run.{Step, Turned, Wrote, CutOff, Idle, first_drawn, site_of}
 use Rattle.machine.specs.Shapes as shape
@@ -30,11 +30,15 @@ use Rattle.machine.specs.Values.{code_number, moved_number}
 
 -- ---- numbers alone
 
--- a number of a function of the source; the entry function isn't one
+-- a function of the source; the entry function isn't one
+abbrev pub is_source_function : Code → ℕ → Bool
+is_source_function code f = nat_lt f (length code.functions) && not (nat_eq f code.entry)
+
+-- the function of the source that has this number
 abbrev pub function_at : Code → ℕ → Callee
 function_at code n =
     let f = n - code_number 0 in
-    if nat_le (code_number 0) n && nat_lt f code.entry then Reaches f else Refused Wild
+    if nat_le (code_number 0) n && is_source_function code f then Reaches f else Refused Wild
 
 abbrev pub callee_at : Code → ℤ → Callee
 callee_at code (pos n) = function_at code n
@@ -42,7 +46,7 @@ callee_at code (negsuc n) = Refused Wild
 
 -- a pointer that both kinds keep stays as it is
 abbrev pub cast_number : Kind → Kind → ℤ → ℤ
-cast_number from to n = if is_kept from && is_kept to then n else cut to n
+cast_number from to n = if is_kept from && is_kept to then n else truncated to n
 
 abbrev pub plain : Domain
 plain = record {
@@ -53,7 +57,7 @@ plain = record {
   function = λ f. pos (code_number f);
   moved = λ n k. pos (moved_number n k);
   cast = cast_number;
-  loaded = cut;
+  loaded = truncated;
   callee = λ code type n. callee_at code n;
   told = λ n. None;
 }
@@ -169,7 +173,7 @@ module _ (D : Domain) (W : Words D) where
   plain_action code t top below (shape.Unlocks p) = act.Store (low p) (pos 0)
   plain_action code t top below (shape.Joins n) = plain_join n
   plain_action code t top below (shape.Prints n) = act.Print n
-  plain_action code t top below (shape.Reads d n) = act.Input n
+  plain_action code t top below (shape.TakesInput d n) = act.Input n
 
   -- ---- effects, once the action is answered and this value was found
 
@@ -218,7 +222,7 @@ module _ (D : Domain) (W : Words D) where
   plain_effect code top below found answer (shape.Unlocks p) = goes_on D top
   plain_effect code top below found answer (shape.Joins n) = if finds_zero answer then stays D top else goes_on D top
   plain_effect code top below found answer (shape.Prints n) = goes_on D top
-  plain_effect code top below found answer (shape.Reads d n) = defines D top d (D.bare (word_of answer))
+  plain_effect code top below found answer (shape.TakesInput d n) = defines D top d (D.bare (word_of answer))
 
   -- ---- turns
 

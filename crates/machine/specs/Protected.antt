@@ -24,7 +24,7 @@ use Rattle.machine.specs.declared.code.CodePlace.{CodePlace}
 use Rattle.machine.specs.declared.code.Kind.{Kind}
 use Rattle.machine.specs.Domain.{Callee, Domain, Reaches, Refused}
 use Rattle.machine.specs.Frames.{Frame, Thread, Waiting, Starting, Running, Effect, Stops, Goes, Enters, Leaves, Write, Nothing, ToUnit, ToObject}
-use Rattle.machine.specs.Numbers.{cut, is_kept, is_zero, low_word}
+use Rattle.machine.specs.Numbers.{is_kept, is_zero, low_word, truncated}
 use Rattle.machine.specs.Shapes as shape
 use Rattle.machine.specs.Shapes.{Shape, object_of, shape_of}
 use Rattle.machine.specs.Threads.{Told, applied, begins, defines, frame_units, goes_on, has_room, place_at, sets, stays, stops}
@@ -167,7 +167,7 @@ action_of code t top below (shape.Locks p) = act.TryLock (address_of p)
 action_of code t top below (shape.Unlocks p) = act.Store (address_of p) (pos 0)
 action_of code t top below (shape.Joins n) = join_action n
 action_of code t top below (shape.Prints n) = act.Print n
-action_of code t top below (shape.Reads d n) = act.Input n
+action_of code t top below (shape.TakesInput d n) = act.Input n
 
 -- ---- effects
 
@@ -182,7 +182,7 @@ unit_value top (Some unit) = slice_index_or top.units unit (Bare (pos 0))
 
 -- what a load gives: a word, an entry, or what a safe local's unit has
 abbrev pub load_value : Frame Value → Kind → Option ℕ → Reply → Value
-load_value top k unit (reply.Word w) = Bare (cut k w)
+load_value top k unit (reply.Word w) = Bare (truncated k w)
 load_value top k unit (reply.Found e) = loaded_entry e
 load_value top k unit _ = loaded_value k (unit_value top unit)
 
@@ -240,7 +240,7 @@ effect_of code top answer (shape.Locks p) = if finds_zero answer then goes_on pr
 effect_of code top answer (shape.Unlocks p) = goes_on protected top
 effect_of code top answer (shape.Joins n) = if finds_zero answer then stays protected top else goes_on protected top
 effect_of code top answer (shape.Prints n) = goes_on protected top
-effect_of code top answer (shape.Reads d n) = defines protected top d (Bare (word_of answer))
+effect_of code top answer (shape.TakesInput d n) = defines protected top d (Bare (word_of answer))
 
 -- ---- turns of a thread
 

@@ -44,7 +44,7 @@ pub data Shape (V : Type 0) : Type 0 where
   Joins : (n : ℤ) → Shape V
   Prints : (n : ℤ) → Shape V
   -- register d has input n
-  Reads : (d : ℕ) (n : ℤ) → Shape V
+  TakesInput : (d : ℕ) (n : ℤ) → Shape V
 
 module _ (D : Domain) where
   -- no number was written there: 0
@@ -116,4 +116,4 @@ module _ (D : Domain) where
   shape_of depth f (Unlock p) = Unlocks (register f p)
   shape_of depth f (Join t) = Joins (number_in f t)
   shape_of depth f (Print a) = Prints (number_in f a)
-  shape_of depth f (Input d a) = Reads d (number_in f a)
+  shape_of depth f (Input d a) = TakesInput d (number_in f a)

@@ -1,6 +1,6 @@
 -- Numbers with shadows: of which object or function each number of the unprotected machine is, and whether protection keeps
 -- that.
-use Rattle.std.specs.Prelude.{ℕ, ℤ, pos, negsuc, ◌+◌, ◌*◌, Bool, true, false, not, ◌&&◌, ◌||◌, if◌then◌else◌, nat_eq, nat_le, nat_lt, List, [], ◌∷◌, ◌++◌, map, Option, Some, None, slice_get}
+use Rattle.std.specs.Prelude.{ℕ, ℤ, pos, negsuc, ◌+◌, ◌*◌, ◌%◌, ◌^◌, Bool, true, false, not, ◌&&◌, ◌||◌, if◌then◌else◌, nat_eq, nat_le, nat_lt, List, [], ◌∷◌, ◌++◌, map, Option, Some, None, slice_get}
 use Rattle.std.specs.List.{list_any}
 use Rattle.std.specs.Ordering.{int_eq}
 use Rattle.c_types.specs.declared.ty.FnTy.{FnTy}
@@ -18,7 +18,7 @@ use Rattle.machine.specs.declared.code.Kind.{Kind}
 use Rattle.machine.specs.declared.code.Kind.TheVariants as kind
 use Rattle.machine.specs.Domain.{Domain}
 use Rattle.machine.specs.Frames.{Frame, Thread, Waiting, Starting, Running}
-use Rattle.machine.specs.Numbers.{cut, is_kept, low_word}
+use Rattle.machine.specs.Numbers.{is_kept, low_word, truncated}
 use Rattle.machine.specs.Plain.{PlainState, Words, callee_at, cast_number, plain_happens, plain_opening, plain_shape, plain_slots, plain_threads}
 use Rattle.machine.specs.Protected.{argument_address, done_address, is_no_thread, is_thread_number, start_address}
 use Rattle.machine.specs.Run.{Step, Turned}
@@ -80,7 +80,7 @@ tracked = record {
   function = λ f. record { number = pos (code_number f); shadow = Function f true };
   moved = moved_tracked;
   cast = λ from to v. record { number = cast_number from to v.number; shadow = cast_shadow from to v.shadow };
-  loaded = λ k v. record { number = cut k v.number; shadow = loaded_shadow k v.shadow };
+  loaded = λ k v. record { number = truncated k v.number; shadow = loaded_shadow k v.shadow };
   callee = λ code type v. callee_at code v.number;
   told = λ v. None;
 }
@@ -157,7 +157,7 @@ abbrev pub Access : Type 0
 Access = ℕ × Bool
 
 abbrev pub start_access : ℕ → ℤ → List Access
-start_access first n = if is_no_thread n then [] else ((first + 2 * low_word n), true) ∷ []
+start_access first n = if is_no_thread n then [] else ((first + 2 * low_word n) % 2 ^ 32, true) ∷ []
 
 abbrev pub done_access : ℕ → List (Frame Tracked) → List Access
 done_access t [] = (done_address t, false) ∷ []

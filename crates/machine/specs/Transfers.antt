@@ -2,7 +2,8 @@
 -- start to the one that was found, and each return goes behind its call.
 use Rattle.std.specs.Prelude.{◌≡◌, ◌≢◌, ◌⊎◌, ℕ, zero, suc, ◌+◌, ◌*◌, ◌≤◌, if◌then◌else◌, nat_eq, List, [], ◌∷◌, ◌++◌, length, map, Option, Some, None, Contains, slice_get}
 use Rattle.std.specs.List.{All}
-use Rattle.core_ir.specs.Flow.{Chain}
+use Rattle.core_ir.specs.declared.role.Role.TheVariants as role
+use Rattle.core_ir.specs.Flow.{Chain, HasRole}
 use Rattle.core_ir.specs.Outline.{Outline}
 use Rattle.meaning.specs.declared.action.Action.{Action}
 use Rattle.meaning.specs.declared.action.Action.TheVariants as act
@@ -144,7 +145,7 @@ IsReadBy (Some (GetLocal d r)) before t site q f (Slot depth s) =
     (depth ≡ site.depth) × (r ≡ s) × IsKeptInSlot before t site q f s
 IsReadBy _ before t site q f place = ⊥
 
--- the register that an indirect call at a site calls
+-- what control flow sees of function f
 abbrev pub outlines_at : Code → ℕ → List Outline
 outlines_at code f = map outline_of_code (body_in (slice_get code.functions f))
 
@@ -152,6 +153,7 @@ outlines_at code f = map outline_of_code (body_in (slice_get code.functions f))
 pub record IsRead (code : Code) (before : List Step) (t : ℕ) (site : Site) (f : ℕ) (place : Place) : Type 0 where
   pub register : ℕ
   pub first : ℕ
+  pub called : HasRole (outlines_at code site.function) 0 site.place (role.Indirect register)
   pub chain : Chain (outlines_at code site.function) 0 site.place register first
   pub read : IsReadBy (place_at code site.function first) before t site first f place
 
