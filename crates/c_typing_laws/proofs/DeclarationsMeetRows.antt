@@ -40,14 +40,14 @@ use Rattle.c_typing.specs.Declarations.{completed, declare, declare_all, declare
 use Rattle.c_typed_rows.specs.Contexts.{Context, global_type, local_type}
 use Rattle.c_typed_rows.specs.Statements.{DeclaredRow, IfInit, IsTypedDecl, IsTypedInitDeclarator, VariableRow}
 use Rattle.c_typed_rows.specs.Initialisers.{IsTypedInit}
-use Rattle.c_typing_laws.specs.Worlds.{Below, EntityFits, HaveNoParameter, LocalStands, MeaningFits, MeansNoParameter, ScopesFit, local_types}
+use Rattle.c_typing_laws.specs.Worlds.{Below, EntityFits, HaveNoParameter, LocalStands, MeaningFits, MeansNoParameter, ScopesFit, defined_by, defined_in, local_types}
 use Rattle.c_typing_laws.specs.inner.Goes.{Goes, Relation, Sound, after, ends, finds, never, ruled, weaker}
 use Rattle.c_typing_laws.proofs.InitialisersMeetRows as inits
 use Rattle.c_typing_laws.proofs.PartsMeetRows.{binding-added, bound-fits, outer-bound}
 use Rattle.c_typing_laws.proofs.RowsStay as stays
 use Rattle.c_typing_laws.proofs.TypedParts as parts
 use Rattle.c_typing_laws.proofs.WalksMeetRows.{declarator-meets, spec-meets}
-use Rattle.c_typing_laws.proofs.WorldSteps.{IsQuiet, at_seam, below-scopes, defined_by, defined_in, in_front, quiet}
+use Rattle.c_typing_laws.proofs.WorldSteps.{IsQuiet, at_seam, below-scopes, in_front, quiet}
 
 -- ---- what statements leave
 
@@ -56,17 +56,17 @@ pub record IsWidening (w v : World) : Type 0 where
   pub scopes : outer v.scopes ≡ outer w.scopes
   pub clean : HaveNoParameter w.scopes → HaveNoParameter v.scopes
   pub globals : v.globals ≡ w.globals
-  pub defined : (x : Name) (f : FnTy) → defined_in v.functions x ≡ Some f → defined_in w.functions x ≡ Some f
+  pub defined : (x : Name) → defined_in v.functions x ≡ defined_in w.functions x
 
 abbrev pub widening : Relation
 widening = record {
   holds = IsWidening;
-  same = λ w. record { scopes = refl; clean = λ c. c; globals = refl; defined = λ x f is. is };
+  same = λ w. record { scopes = refl; clean = λ c. c; globals = refl; defined = λ x. refl };
   joined = λ w v u first second. record {
     scopes = second.scopes ∙ first.scopes;
     clean = λ c. second.clean (first.clean c);
     globals = second.globals ∙ first.globals;
-    defined = λ x f is. first.defined x f (second.defined x f is);
+    defined = λ x. second.defined x ∙ first.defined x;
   };
 }
 
@@ -130,22 +130,22 @@ pub known-stays : (ks more : List KnownFunction) (y : Name) (f : KnownFunction) 
 known-stays [] more y f is = cc
 known-stays (j ∷ ks) more y f is = known_front j y f (known_function ks y) (known_function (ks ++ more) y) (bytes_eq j.name y) (known-stays ks more y f) is
 
-by_flag : (t f : FnTy) (b : Bool) → b ≡ false → (if b then Some t else None) ≡ Some f → ⊥
-by_flag t f true undefined found = cc
-by_flag t f false undefined found = cc
+by_flag : (t : FnTy) (b : Bool) → b ≡ false → (if b then Some t else None) ≡ None
+by_flag t true undefined = cc
+by_flag t false undefined = refl
 
-undefined_last : (n : KnownFunction) (f : FnTy) (named : Bool) → n.is_defined ≡ false → defined_by (if named then Some n else None) ≡ Some f → ⊥
-undefined_last n f true undefined is = by_flag n.ty f n.is_defined undefined is
-undefined_last n f false undefined is = cc
+undefined_last : (n : KnownFunction) (named : Bool) → n.is_defined ≡ false → defined_by (if named then Some n else None) ≡ None
+undefined_last n true undefined = by_flag n.ty n.is_defined undefined
+undefined_last n false undefined = refl
 
-defined_front : (j : KnownFunction) (f : FnTy) (o p : Option KnownFunction) (named : Bool) → (defined_by p ≡ Some f → defined_by o ≡ Some f)
-    → defined_by (if named then Some j else p) ≡ Some f → defined_by (if named then Some j else o) ≡ Some f
-defined_front j f o p true rest is = is
-defined_front j f o p false rest is = rest is
+defined_front : (j : KnownFunction) (o p : Option KnownFunction) (named : Bool) → defined_by p ≡ defined_by o
+    → defined_by (if named then Some j else p) ≡ defined_by (if named then Some j else o)
+defined_front j o p true rest = refl
+defined_front j o p false rest = rest
 
-pub known-defines_none : (ks : List KnownFunction) (n : KnownFunction) (y : Name) (f : FnTy) → n.is_defined ≡ false → defined_in (ks ++ n ∷ []) y ≡ Some f → defined_in ks y ≡ Some f
-known-defines_none [] n y f undefined is = absurd (undefined_last n f (bytes_eq n.name y) undefined is)
-known-defines_none (j ∷ ks) n y f undefined is = defined_front j f (known_function ks y) (known_function (ks ++ n ∷ []) y) (bytes_eq j.name y) (known-defines_none ks n y f undefined) is
+pub known-defines_none : (ks : List KnownFunction) (n : KnownFunction) (y : Name) → n.is_defined ≡ false → defined_in (ks ++ n ∷ []) y ≡ defined_in ks y
+known-defines_none [] n y undefined = undefined_last n (bytes_eq n.name y) undefined
+known-defines_none (j ∷ ks) n y undefined = defined_front j (known_function ks y) (known_function (ks ++ n ∷ []) y) (bytes_eq j.name y) (known-defines_none ks n y undefined)
 
 -- ---- types
 
@@ -214,7 +214,7 @@ module _ (stay : UnitsStay) (grow : TablesGrow) (k : Context) (gs : List Ty) (ah
       let e : Entity = entity.Local (length w.locals) in
       let ss : List (List Binding) = bound_in w.scopes x (means.Variable e t) in
       stepped {a = e} w (record w { locals = w.locals ++ l ∷ []; scopes = ss })
-      (record { scopes = outer-bound w.scopes x (means.Variable e t); clean = bound-clean w.scopes x (means.Variable e t) tt; globals = refl; defined = λ y f is. is })
+      (record { scopes = outer-bound w.scopes x (means.Variable e t); clean = bound-clean w.scopes x (means.Variable e t) tt; globals = refl; defined = λ y. refl })
       (λ sound. bound-fits gs (map (λ l. l.ty) (w.locals ++ l ∷ [])) w.scopes x (means.Variable e t)
       (subst (λ ts. ScopesFit gs ts w.scopes) (sym (types-wider w.locals l)) (scopes-wider gs (local_types w) (t ∷ []) w.scopes sound))
       (new_type w.locals x t))
@@ -249,7 +249,7 @@ module _ (stay : UnitsStay) (grow : TablesGrow) (k : Context) (gs : List Ty) (ah
   known-goes x f None w =
       let g : KnownFunction = record { name = x; ty = f; first = w.item; is_used = false; is_defined = false } in
       renamed {a = tt} w (record w { functions = w.functions ++ g ∷ [] })
-      (record { wide = record { scopes = refl; clean = λ c. c; globals = refl; defined = λ y h is. known-defines_none w.functions g y h refl is }; locals = refl })
+      (record { wide = record { scopes = refl; clean = λ c. c; globals = refl; defined = λ y. known-defines_none w.functions g y refl }; locals = refl })
       (λ sound. sound) (λ b. (known-below w g b, tt))
 
   pub bind_type-goes : (x : Name) (t : Ty) (w : World) → Goes k gs naming w ((bind x (means.TypeName t) >> pure t) w) (λ u. Unit {0})
@@ -261,7 +261,7 @@ module _ (stay : UnitsStay) (grow : TablesGrow) (k : Context) (gs : List Ty) (ah
           scopes = outer-bound w.scopes x (means.TypeName t);
           clean = bound-clean w.scopes x (means.TypeName t) tt;
           globals = refl;
-          defined = λ y h is. is;
+          defined = λ y. refl;
         };
         locals = refl;
       })
@@ -271,7 +271,7 @@ module _ (stay : UnitsStay) (grow : TablesGrow) (k : Context) (gs : List Ty) (ah
   unfolding bind
   bind_function-by x true w = ends k gs (λ b. tt)
   bind_function-by x false w = renamed {a = tt} w (record w { scopes = bound_in w.scopes x means.Function })
-      (record { wide = record { scopes = outer-bound w.scopes x means.Function; clean = bound-clean w.scopes x means.Function tt; globals = refl; defined = λ y h is. is }; locals = refl })
+      (record { wide = record { scopes = outer-bound w.scopes x means.Function; clean = bound-clean w.scopes x means.Function tt; globals = refl; defined = λ y. refl }; locals = refl })
       (λ sound. bound-fits gs (local_types w) w.scopes x means.Function sound tt) (λ b. (below-scopes grow k gs w (bound_in w.scopes x means.Function) b, tt))
 
   pub named-goes : (x : Name) (f : FnTy) (w : World) → Goes k gs naming w ((make_known x f >> bind_function x) w) (λ u. Unit {0})

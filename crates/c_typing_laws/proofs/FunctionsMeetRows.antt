@@ -1,45 +1,47 @@
 -- The walk of a function's definition finds a block that meets its rows, in a context of the function's own variables.
-use Rattle.std.proofs.Common.{◌≡◌, ◌∙◌, ℕ, Bool, true, false, ◌&&◌, if◌then◌else◌, List, [], ◌∷◌, map, Option, Some, None, slice_get, Ok, Err, refl, ap, sym, subst}
+use Rattle.std.proofs.Common.{◌≡◌, ◌∙◌, ℕ, Bool, true, false, ◌&&◌, if◌then◌else◌, List, [], ◌∷◌, ◌++◌, map, Option, Some, None, slice_get, Ok, Err, refl, ap, sym, subst, unwrap_or}
 use Rattle.std.specs.Str.{bytes_eq}
 use Rattle.c_layers.specs.declared.layer.Layer.{Layer}
 use Rattle.c_layers.specs.declared.layer.Parameter.{Parameter}
-use Rattle.c_layers.specs.declared.layer.Shape.{Shape}
-use Rattle.c_layers.specs.Shapes.{results_fit, shaped, whole_of}
+use Rattle.c_layers.specs.declared.layer.Shape.TheVariants as shape
+use Rattle.c_layers.specs.Shapes.{results_fit, shaped}
 use Rattle.c_types.specs.declared.ty.FnTy.{FnTy, out-FnTy}
 use Rattle.c_types.specs.declared.ty.Ty.{Ty}
 use Rattle.c_types.specs.declared.ty.Ty.TheVariants as ty
 use Rattle.c_types.specs.Kinds.{function_of}
-use Rattle.c_types.specs.Theorems.{TablesGrow, UnitsStay}
+use Rattle.c_types.specs.Theorems.{SameIsEquality, TablesGrow, UnitsStay}
 use Rattle.c_tree.specs.declared.expression.Declarator.{Declarator}
 use Rattle.c_tree.specs.declared.statement.Block.{Block}
+use Rattle.c_typed.specs.declared.expression.Declared.{out-Declared}
 use Rattle.c_typed.specs.declared.expression.TypedSpec.{TypedSpec}
 use Rattle.c_typed.specs.declared.statement.TypedBlock.{TypedBlock}
 use Rattle.c_typed.specs.declared.unit.Local.{Local}
-use Rattle.c_scope.specs.declared.rule.Rule.{Rule}
-use Rattle.c_scope.specs.declared.rule.Rule.TheVariants as broken
+use Rattle.c_typed.specs.declared.unit.TypedFn.{TypedFn}
 use Rattle.c_scope.specs.declared.world.KnownFunction.{KnownFunction}
 use Rattle.c_scope.specs.declared.world.World.{World}
 use Rattle.c_scope.specs.BuiltIns.{Name}
 use Rattle.c_scope.specs.Definitions.{bind_parameters, declare_function, mark_defined, marked, may_be_defined, own_parameter, own_parameters}
 use Rattle.c_scope.specs.Scopes.{enter, known_function, leave, outer, with_function}
-use Rattle.c_scope.specs.Walk.{Outcome, Walk, ◌>>=◌, ◌>>◌, and_then, found, pure}
+use Rattle.c_scope.specs.Walk.{Outcome, Walk, ◌>>=◌, ◌>>◌, and_then, pure}
 use Rattle.c_expr_typing.specs.declared.layered.LayeredDeclarator.{LayeredDeclarator}
-use Rattle.c_expr_typing.specs.Trees.{typed_declarator}
-use Rattle.c_typing.specs.Functions.{bind_own, bind_own_by, define_function, defined_type, function_body, function_parts, is_definition, shaped_function, take_locals, typed_function}
+use Rattle.c_expr_typing.specs.Trees.{declared, typed_declarator}
+use Rattle.c_typing.specs.Functions.{bind_own, bind_own_by, define_function, function_body, function_parts, is_definition, shaped_function, take_locals, typed_function}
 use Rattle.c_typing.specs.Statements.{typed_block}
-use Rattle.c_typed_rows.specs.Contexts.{Context, defined_as}
+use Rattle.c_typed_rows.specs.Contexts.{Context, Signature, defined_as}
+use Rattle.c_typed_rows.specs.Sources.{name_of, no_type, signature}
 use Rattle.c_typed_rows.specs.Statements.{IsTypedBlock}
 use Rattle.c_typing_laws.specs.Theorems.{DefinesFunction}
 use Rattle.c_typing_laws.specs.Worlds.{AreFirst, Below, HaveNoParameter, IsFile, LocalStands, ScopesFit, local_types}
-use Rattle.c_typing_laws.specs.inner.Goes.{Goes, after, ends, finds, never, ruled, weaker}
+use Rattle.c_typing_laws.specs.inner.Goes.{Goes, after, ends, weaker}
 use Rattle.c_typing_laws.specs.inner.TypedTrees.{IsTypedDeclarator}
 use Rattle.c_typing_laws.proofs.DeclarationsMeetRows as locals
-use Rattle.c_typing_laws.proofs.DeclarationsMeetRows.{declared-ty, function_of-is, widening}
+use Rattle.c_typing_laws.proofs.DeclarationsMeetRows.{declared-ty, naming, widening}
+use Rattle.c_typing_laws.proofs.DeclaredNames.{declared-name}
+use Rattle.c_typing_laws.proofs.DefinedFunctions.{IsKnown, MayBe, With, declared-known, distinct-more, ended, function-is, marked-defined, may-be, one-more, split, type-found}
 use Rattle.c_typing_laws.proofs.FileDeclarationsMeetRows.{FileStays, are-first, of_naming, of_quiet, with_globals}
 use Rattle.c_typing_laws.proofs.StatementsMeetRows.{block-meets}
 use Rattle.c_typing_laws.proofs.TypedParts as parts
 use Rattle.c_typing_laws.proofs.WalksMeetRows.{declarator-meets}
-use Rattle.c_typing_laws.proofs.WorldSteps.{quiet}
 
 -- ---- the mark that a function is defined
 
@@ -91,56 +93,32 @@ below-defined k w x none b = record {
 
 -- ---- what is left
 
-abbrev answered : {A : Type 0} → A → World → Outcome (A × World)
-answered a w = Ok (a, w)
+module _ (fs : List Signature) where
+  abbrev answered : {A : Type 0} → A → World → Outcome (A × World)
+  answered a w = Ok (a, w)
 
-abbrev Stays : {A : Type 0} → List Ty → World → (Context → A → Type 0) → A × World → Type 0
-Stays gs w Q r = IsFile gs r.1 × ((k : Context) → AreFirst k gs → Below k r.1 → Below k w × Q k r.0)
+  abbrev Stays : {A : Type 0} → List Ty → World → (Context → A → Type 0) → A × World → Type 0
+  Stays gs w Q r = IsFile gs fs r.1 × ((k : Context) → AreFirst k gs → Below k r.1 → Below k w × Q k r.0)
 
-stays-same : {A : Type 0} (gs : List Ty) (w v : World) (Q : Context → A → Type 0) (a : A) (r : A × World) → answered a v ≡ Ok r → Stays gs w Q (a, v) → Stays gs w Q r
-stays-same gs w v Q a r is stays =
-    let same : (a, v) ≡ r = cc in
-    subst (Stays gs w Q) same stays
+  stays-same : {A : Type 0} (gs : List Ty) (w v : World) (Q : Context → A → Type 0) (a : A) (r : A × World) → answered a v ≡ Ok r → Stays gs w Q (a, v) → Stays gs w Q r
+  stays-same gs w v Q a r is stays =
+      let same : (a, v) ≡ r = cc in
+      subst (Stays gs w Q) same stays
 
-pub behind : {A B : Type 0} {P : Context → A → Type 0} {Q : Context → B → Type 0} (gs : List Ty) (w : World) (o : Outcome (A × World)) (f : A → Walk B)
-    → FileStays gs w o P → ((a : A) (v : World) → IsFile gs v → FileStays gs v (f a v) (λ k b. P k a → Q k b)) → FileStays gs w (and_then o f) Q
-behind gs w (Ok a) f first rest = record {
-  found = λ r is file.
-      let h = first.found a refl file in
-      let g = (rest a.0 a.1 h.0).found r is h.0 in
-      (g.0, λ k ahead below. let m = g.1 k ahead below in let n = h.1 k ahead m.0 in (n.0, m.1 n.1));
-}
-behind gs w (Err e) f first rest = record { found = λ r is. cc }
+  pub behind : {A B : Type 0} {P : Context → A → Type 0} {Q : Context → B → Type 0} (gs : List Ty) (w : World) (o : Outcome (A × World)) (f : A → Walk B)
+      → FileStays fs gs w o P → ((a : A) (v : World) → IsFile gs fs v → FileStays fs gs v (f a v) (λ k b. P k a → Q k b)) → FileStays fs gs w (and_then o f) Q
+  behind gs w (Ok a) f first rest = record {
+    found = λ r is file.
+        let h = first.found a refl file in
+        let g = (rest a.0 a.1 h.0).found r is h.0 in
+        (g.0, λ k ahead below. let m = g.1 k ahead below in let n = h.1 k ahead m.0 in (n.0, m.1 n.1));
+  }
+  behind gs w (Err e) f first rest = record { found = λ r is. cc }
 
-weaken : {A : Type 0} {P Q : Context → A → Type 0} (gs : List Ty) (w : World) (o : Outcome (A × World)) → ((k : Context) (a : A) → P k a → Q k a) → FileStays gs w o P → FileStays gs w o Q
-weaken gs w o less stays = record { found = λ r is file. let h = stays.found r is file in (h.0, λ k ahead below. let m = h.1 k ahead below in (m.0, less k r.0 m.1)) }
-
-defined-file : (gs : List Ty) (x : Name) (f : FnTy) (w : World) → IsFile gs w → FileStays gs w ((mark_defined x >> pure f) w) (λ k g. Unit {0})
-unfolding mark_defined
-defined-file gs x f w at = record {
-  found = λ r is file. stays-same gs w (record w { functions = with_function (marked false true) w.functions x; locals = [] }) (λ k g. Unit {0}) f r is (
-    record { scopes = subst (λ ts. ScopesFit gs ts w.scopes) at.no_local at.scopes; no_parameter = at.no_parameter; no_local = refl; count = at.count },
-    λ k ahead below. (below-defined k w x at.no_local below, tt),
-  );
-}
+  weaken : {A : Type 0} {P Q : Context → A → Type 0} (gs : List Ty) (w : World) (o : Outcome (A × World)) → ((k : Context) (a : A) → P k a → Q k a) → FileStays fs gs w o P → FileStays fs gs w o Q
+  weaken gs w o less stays = record { found = λ r is file. let h = stays.found r is file in (h.0, λ k ahead below. let m = h.1 k ahead below in (m.0, less k r.0 m.1)) }
 
 module _ (stay : UnitsStay) (grow : TablesGrow) where
-  found-goes : {A : Type 0} (k : Context) (gs : List Ty) (w : World) (r : Rule) (o : Option A) → Goes k gs quiet w (found r o w) (λ a. o ≡ Some a)
-  found-goes k gs w r None = never k gs
-  found-goes k gs w r (Some a) = ends k gs (λ below. refl)
-
-  type-goes : (k : Context) (gs : List Ty) (x : Name) (s : Shape) (fits : Bool) (w : World) → Goes k gs quiet w (defined_type x s fits w) (λ f. Unit {0})
-  unfolding defined_type
-  type-goes k gs x s fits w = ruled k gs broken.Redeclared (may_be_defined w x s) _ (λ may. finds k gs broken.Unsized (whole_of s) _ (λ t is. ruled k gs broken.Form fits _ (λ form.
-      weaker k gs _ (λ f h. tt) (found-goes k gs w broken.Form (function_of t)))))
-
-  define-file : (gs : List Ty) (base : Ty) (d : LayeredDeclarator) (w : World) → FileStays gs w (define_function base d w) (λ k f. Unit {0})
-  define-file gs base d w = behind {P = λ k f. Unit {0}} gs w (shaped_function base d w) _
-      (of_quiet gs w (shaped_function base d w) (λ k first. type-goes k gs d.name (shaped w.structs base d.layers) (results_fit w.structs base d.layers && is_definition d.layers) w))
-      (λ f v at. behind {P = λ k e. Unit {0}} gs v (declare_function d.name f v) _
-      (of_naming gs v (declare_function d.name f v) (λ k first. weaker k gs _ (λ e h. tt) (locals.function-goes stay grow k gs first d.name f (ty.Function f) refl v)))
-      (λ e u there. weaken gs u _ (λ k g h any more. tt) (defined-file gs d.name f u there)))
-
   -- ---- bodies
 
   module _ (k : Context) (gs : List Ty) (first : AreFirst k gs) where
@@ -171,54 +149,165 @@ module _ (stay : UnitsStay) (grow : TablesGrow) where
   abbrev BodyFound : FnTy → Context → List Local × TypedBlock → Type 0
   BodyFound f k r = IsTypedBlock (inside k f r.0) r.1
 
-  body_by : (gs : List Ty) (f : FnTy) (layers : List Layer) (b : Block) (w : World) (o : Outcome (TypedBlock × World))
-      → (bind_own layers >> typed_block (out-FnTy f).result b false) (record w { scopes = [] ∷ w.scopes }) ≡ o → IsFile gs w
+  body_by : (fs : List Signature) (gs : List Ty) (f : FnTy) (layers : List Layer) (b : Block) (w : World) (o : Outcome (TypedBlock × World))
+      → (bind_own layers >> typed_block (out-FnTy f).result b false) (record w { scopes = [] ∷ w.scopes }) ≡ o → IsFile gs fs w
       → (r : (FnTy × List Local × TypedBlock) × World)
       → and_then (and_then o (λ x v. Ok (x, record v { scopes = outer v.scopes }))) (λ body. take_locals >>= (λ ls. pure (f, ls, body))) ≡ Ok r
-      → Stays gs w (λ k g. (g.0 ≡ f) × IsTypedBlock (inside k f g.1) g.2) r
-  body_by gs f layers b w (Ok a) is file r end =
+      → Stays fs gs w (λ k g. (g.0 ≡ f) × IsTypedBlock (inside k f g.1) g.2) r
+  body_by fs gs f layers b w (Ok a) is file r end =
       let start : World = record w { scopes = [] ∷ w.scopes } in
       let clean : HaveNoParameter start.scopes = (tt, file.no_parameter) in
       let h = (scope-goes (inside (with_globals gs) f a.1.locals) gs (are-first gs) layers b start clean).found a is (tt, file.scopes) in
-      stays-same gs w (record a.1 { scopes = outer a.1.scopes; locals = [] }) (λ k g. (g.0 ≡ f) × IsTypedBlock (inside k f g.1) g.2) (f, a.1.locals, a.0) r end (
+      stays-same fs gs w (record a.1 { scopes = outer a.1.scopes; locals = [] }) (λ k g. (g.0 ≡ f) × IsTypedBlock (inside k f g.1) g.2) (f, a.1.locals, a.0) r end (
         record {
           scopes = subst (λ ss. ScopesFit gs [] ss) (sym h.0.scopes) (subst (λ ts. ScopesFit gs ts w.scopes) file.no_local file.scopes);
           no_parameter = subst HaveNoParameter (sym h.0.scopes) file.no_parameter;
           no_local = refl;
           count = h.0.globals ∙ file.count;
+          defined = λ x. h.0.defined x ∙ file.defined x;
+          distinct = file.distinct;
         },
         λ k ahead below.
             let own : Below (inside k f a.1.locals) a.1 = record { structs = below.structs; functions = below.functions; strings = below.strings; locals = stands a.1.locals } in
             let n = ((scope-goes (inside k f a.1.locals) gs ahead layers b start clean).found a is (tt, file.scopes)).2 own in
             (record { structs = n.0.structs; functions = n.0.functions; strings = n.0.strings; locals = λ m l here. no_local w.locals file.no_local _ m l here }, (refl, n.1)),
       )
-  body_by gs f layers b w (Err e) is file r end = cc
+  body_by fs gs f layers b w (Err e) is file r end = cc
 
-  body-file : (gs : List Ty) (f : FnTy) (layers : List Layer) (b : Block) (w : World)
-      → FileStays gs {A = FnTy × List Local × TypedBlock} w ((function_body layers f b >>= (λ body. take_locals >>= (λ ls. pure (f, ls, body)))) w) (λ k g. (g.0 ≡ f) × IsTypedBlock (inside k f g.1) g.2)
+  body-file : (fs : List Signature) (gs : List Ty) (f : FnTy) (layers : List Layer) (b : Block) (w : World)
+      → FileStays fs gs {A = FnTy × List Local × TypedBlock} w ((function_body layers f b >>= (λ body. take_locals >>= (λ ls. pure (f, ls, body)))) w) (λ k g. (g.0 ≡ f) × IsTypedBlock (inside k f g.1) g.2)
   unfolding enter leave
-  body-file gs f layers b w = record {
+  body-file fs gs f layers b w = record {
     found = λ r is file.
-        body_by gs f layers b w ((bind_own layers >> typed_block (out-FnTy f).result b false) (record w { scopes = [] ∷ w.scopes })) refl file r is;
+        body_by fs gs f layers b w ((bind_own layers >> typed_block (out-FnTy f).result b false) (record w { scopes = [] ∷ w.scopes })) refl file r is;
   }
 
-  parts-file : (gs : List Ty) (base : Ty) (d : LayeredDeclarator) (b : Block) (w : World)
-      → FileStays gs w (function_parts base d b w) (λ k g. IsTypedBlock (inside k g.0 g.1) g.2)
-  parts-file gs base d b w = behind {P = λ k f. Unit {0}} gs w (define_function base d w) _ (define-file gs base d w) (λ f v at.
-      weaken gs v _ (λ k g h any. subst (λ t. IsTypedBlock (inside k t g.1) g.2) (sym h.0) h.1) (body-file gs f d.layers b v))
+  -- ---- definitions
 
-  pub function-file : (gs : List Ty) (s : TypedSpec) (base : Ty) (d : Declarator) (b : Block) (w : World)
-      → FileStays gs w (typed_function s base d b w) (λ k f. DefinesFunction k f × (f.spec ≡ s))
-  unfolding typed_function
-  function-file gs s base d b w = behind {P = λ k x. IsTypedDeclarator k x.tree} gs w (typed_declarator d w) _
-      (of_quiet gs w (typed_declarator d w) (λ k first. declarator-meets stay grow k gs first d w))
-      (λ x v at. behind {P = λ k g. IsTypedBlock (inside k g.0 g.1) g.2} gs v (function_parts base x b v) _ (parts-file gs base x b v)
-      (λ g u there. of_quiet gs u _ (λ k first. ends k gs (λ below block hx. (
+  module _ (law : SameIsEquality) (fs : List Signature) where
+    -- behind the definition of this function
+    abbrev Behind : Name → FnTy → List Signature
+    Behind x f = fs ++ record { name = x; ty = f } ∷ []
+
+    -- what the definition of a function leaves
+    record Defines (gs : List Ty) (x : Name) (f : FnTy) (w v : World) : Type 0 where
+      pub file : IsFile gs (Behind x f) v
+      pub below : (k : Context) → AreFirst k gs → Below k v → Below k w
+
+    marked-file : (gs : List Ty) (x : Name) (f : FnTy) (w u : World) → IsFile gs fs w → IsFile gs fs u → MayBe w x f → IsKnown u.functions x f
+        → IsFile gs (Behind x f) (record u { functions = with_function (marked false true) u.functions x; locals = [] })
+    marked-file gs x f w u before at may known =
+        let none : defined_as fs x ≡ None = sym (before.defined x) ∙ may.undefined in
         record {
-          type = g.0;
-          ty = declared-ty x.tree (ty.Function g.0);
-          bounds = parts.declared-made k x.tree (ty.Function g.0) hx;
-          block = block;
-        },
-        refl,
-      )))))
+          scopes = subst (λ ts. ScopesFit gs ts u.scopes) at.no_local at.scopes;
+          no_parameter = at.no_parameter;
+          no_local = refl;
+          count = at.count;
+          defined = λ y. marked-defined u.functions x f y known.0 known.1.0 known.1.1 ∙ ap (With x f y) (at.defined y) ∙ sym (one-more fs (record { name = x; ty = f }) y none);
+          distinct = distinct-more fs (record { name = x; ty = f }) none at.distinct;
+        }
+
+    abbrev Marked : Name → FnTy → Walk FnTy
+    Marked x f = declare_function x f >> (mark_defined x >> pure f)
+
+    declared-goes : (k : Context) (gs : List Ty) → AreFirst k gs → (x : Name) (f : FnTy) (w : World) → Goes k gs naming w (declare_function x f w) (λ e. Unit {0})
+    declared-goes k gs first x f w = weaker k gs _ (λ e h. tt) (locals.function-goes stay grow k gs first x f (ty.Function f) refl w)
+
+    marked-found : (gs : List Ty) (x : Name) (f : FnTy) (w : World) → MayBe w x f → IsFile gs fs w → (r : FnTy × World) → Marked x f w ≡ Ok r
+        → (f ≡ r.0) × Defines gs x f w r.1
+    unfolding mark_defined
+    marked-found gs x f w may at r is =
+        let a = split (declare_function x f w) _ r is in
+        let h = (of_naming fs gs w (declare_function x f w) (λ k first. declared-goes k gs first x f w)).found a.0 a.1.0 at in
+        let u : World = a.0.1 in
+        subst (λ (s : FnTy × World). (f ≡ s.0) × Defines gs x f w s.1)
+        (ended f (record u { functions = with_function (marked false true) u.functions x; locals = [] }) r a.1.1)
+        (refl, record {
+          file = marked-file gs x f w u at h.0 may (declared-known x f w may a.0 a.1.0);
+          below = λ k first b. (h.1 k first (below-defined k u x h.0.no_local b)).0;
+        })
+
+    -- a definition, by its declarator's layers
+    record DefinesBy (gs : List Ty) (base : Ty) (d : LayeredDeclarator) (w : World) (r : FnTy × World) : Type 0 where
+      pub left : Defines gs d.name r.0 w r.1
+      pub shape : shaped w.structs base d.layers ≡ shape.Whole (ty.Function r.0)
+      pub form : (results_fit w.structs base d.layers && is_definition d.layers) ≡ true
+
+    define-found : (gs : List Ty) (base : Ty) (d : LayeredDeclarator) (w : World) → IsFile gs fs w → (r : FnTy × World) → define_function base d w ≡ Ok r → DefinesBy gs base d w r
+    define-found gs base d w at r is =
+        let a = split (shaped_function base d w) _ r is in
+        let t = type-found w d.name (shaped w.structs base d.layers) (results_fit w.structs base d.layers && is_definition d.layers) a.0 a.1.0 in
+        let rest : Marked d.name a.0.0 w ≡ Ok r = subst (λ v. Marked d.name a.0.0 v ≡ Ok r) t.same a.1.1 in
+        let may = may-be law w d.name a.0.0 (subst (λ s. may_be_defined w d.name s ≡ true) t.whole t.may) in
+        let h = marked-found gs d.name a.0.0 w may at r rest in
+        record {
+          left = subst (λ f. Defines gs d.name f w r.1) h.0 h.1;
+          shape = t.whole ∙ ap (λ f. shape.Whole (ty.Function f)) h.0;
+          form = t.form;
+        }
+
+    -- ---- whole definitions
+
+    -- the parts of a definition, in a file with its function
+    record Parts (gs : List Ty) (base : Ty) (d : LayeredDeclarator) (w : World) (r : (FnTy × List Local × TypedBlock) × World) : Type 0 where
+      pub file : IsFile gs (Behind d.name r.0.0) r.1
+      pub rows : (k : Context) → AreFirst k gs → Below k r.1 → Below k w × IsTypedBlock (inside k r.0.0 r.0.1) r.0.2
+
+    taken : (f : FnTy) (b : TypedBlock) (w : World) (r : (FnTy × List Local × TypedBlock) × World)
+        → and_then (take_locals w) (λ ls. pure (f, ls, b)) ≡ Ok r → r.0.0 ≡ f
+    taken f b w r is = sym (ap (λ (s : (FnTy × List Local × TypedBlock) × World). s.0.0) (ended (f, w.locals, b) (record w { locals = [] }) r is))
+
+    parts-found : (gs : List Ty) (base : Ty) (d : LayeredDeclarator) (b : Block) (w : World) → IsFile gs fs w
+        → (r : (FnTy × List Local × TypedBlock) × World) → function_parts base d b w ≡ Ok r → Parts gs base d w r
+    parts-found gs base d b w at r is =
+        let a = split (define_function base d w) _ r is in
+        let h = define-found gs base d w at a.0 a.1.0 in
+        let g = (body-file (Behind d.name a.0.0) gs a.0.0 d.layers b a.0.1).found r a.1.1 h.left.file in
+        let c = split (function_body d.layers a.0.0 b a.0.1) _ r a.1.1 in
+        let same : r.0.0 ≡ a.0.0 = taken a.0.0 c.0.0 c.0.1 r c.1.1 in
+        record {
+          file = subst (λ f. IsFile gs (Behind d.name f) r.1) (sym same) g.0;
+          rows = λ k first below.
+              let m = g.1 k first below in
+              (h.left.below k first m.0, subst (λ f. IsTypedBlock (inside k f r.0.1) r.0.2) (sym same) m.1.1);
+        }
+
+    -- what a definition leaves
+    pub record FunctionFound (gs : List Ty) (s : TypedSpec) (w : World) (r : TypedFn × World) : Type 0 where
+      pub file : IsFile gs (fs ++ signature r.0 ∷ []) r.1
+      pub spec : r.0.spec ≡ s
+      pub rows : (k : Context) → AreFirst k gs → Below k r.1 → Below k w × DefinesFunction k r.0
+
+    function-made : (gs : List Ty) (s : TypedSpec) (base : Ty) (d : Declarator) (w : World) (x : LayeredDeclarator × World) (p : (FnTy × List Local × TypedBlock) × World)
+        → typed_declarator d w ≡ Ok x
+        → ((k : Context) → AreFirst k gs → Below k x.1 → Below k w × IsTypedDeclarator k x.0.tree)
+        → Parts gs base x.0 x.1 p
+        → FunctionFound gs s w (record { spec = s; declared = declared x.0.tree (ty.Function p.0.0); locals = p.0.1; block = p.0.2 }, p.1)
+    function-made gs s base d w x p is known parts_too =
+        let t : FnTy = p.0.0 in
+        let named : name_of (declared x.0.tree (ty.Function t)) ≡ x.0.name = declared-name d w x (ty.Function t) is in
+        let typed : unwrap_or (function_of (out-Declared (declared x.0.tree (ty.Function t))).ty) no_type ≡ t =
+            ap (λ u. unwrap_or (function_of u) no_type) (declared-ty x.0.tree (ty.Function t)) ∙ ap (λ o. unwrap_or o no_type) (function-is t) in
+        record {
+          file = subst (λ (g : Signature). IsFile gs (fs ++ g ∷ []) p.1) (sym (λ i. record { name = named i; ty = typed i })) parts_too.file;
+          spec = refl;
+          rows = λ k first below.
+              let m = parts_too.rows k first below in
+              let n = known k first m.0 in
+              (n.0, record {
+                type = t;
+                ty = declared-ty x.0.tree (ty.Function t);
+                bounds = parts.declared-made k x.0.tree (ty.Function t) n.1;
+                block = m.1;
+              });
+        }
+
+    pub function-found : (gs : List Ty) (s : TypedSpec) (base : Ty) (d : Declarator) (b : Block) (w : World) → IsFile gs fs w
+        → (r : TypedFn × World) → typed_function s base d b w ≡ Ok r → FunctionFound gs s w r
+    unfolding typed_function
+    function-found gs s base d b w at r is =
+        let a = split (typed_declarator d w) _ r is in
+        let h = (of_quiet fs gs w (typed_declarator d w) (λ k first. declarator-meets stay grow k gs first d w)).found a.0 a.1.0 at in
+        let p = split (function_parts base a.0.0 b a.0.1) _ r a.1.1 in
+        let g = parts-found gs base a.0.0 b a.0.1 h.0 p.0 p.1.0 in
+        subst (FunctionFound gs s w) (ended _ p.0.1 r p.1.1) (function-made gs s base d w a.0 p.0 a.1.0 h.1 g)

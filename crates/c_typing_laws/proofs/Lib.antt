@@ -21,4 +21,7 @@ mod StatementsMeetRows
 mod RowsOfWalks
 mod FileDeclarationsMeetRows
 mod FunctionsMeetRows
+mod DeclaredNames
+mod ScalarParameters
+mod DefinedFunctions
 mod ItemsMeetRows

@@ -237,7 +237,7 @@ module _ (stay : UnitsStay) (grow : TablesGrow) (k : Context) (gs : List Ty) (ah
         let end : World = record w { scopes = bound_in w.scopes x (means.Variable entity.Parameter t) } in
         let same : (tt, end) ≡ r = cc in
         subst (λ (s : Unit {0} × World). IsInner w s.1 × Sound k gs s.1 × (Below k s.1 → Below k w × Unit {0})) same (
-          record { scopes = outer-bound w.scopes x (means.Variable entity.Parameter t); bodies = λ s. refl; steady = record { locals = refl; globals = refl; defined = λ y f is. is } },
+          record { scopes = outer-bound w.scopes x (means.Variable entity.Parameter t); bodies = λ s. refl; steady = record { locals = refl; globals = refl; defined = λ y. refl } },
           bound-fits gs (local_types w) w.scopes x (means.Variable entity.Parameter t) sound tt,
           λ below. (below-scopes grow k gs w (bound_in w.scopes x (means.Variable entity.Parameter t)) below, tt),
         );

@@ -22,33 +22,25 @@ use Rattle.c_scope.specs.Scopes.{known_function, most_tags, new_tag, outer, tag,
 use Rattle.c_scope.specs.Walk.{Outcome}
 use Rattle.c_rules.specs.Rules.{addressed_at}
 use Rattle.c_typed_rows.specs.Contexts.{Context, defined_as}
-use Rattle.c_typing_laws.specs.Worlds.{Below, LocalStands, ScopesFit, local_types}
+use Rattle.c_typing_laws.specs.Worlds.{Below, LocalStands, ScopesFit, defined_by, defined_in, local_types}
 use Rattle.c_typing_laws.specs.inner.Goes.{Goes, Relation, Sound, ends, ruled}
 
 -- ---- relations
 
--- the type of a function that is defined
-abbrev pub defined_by : Option KnownFunction → Option FnTy
-defined_by None = None
-defined_by (Some f) = if f.is_defined then Some f.ty else None
-
-abbrev pub defined_in : List KnownFunction → Name → Option FnTy
-defined_in fs x = defined_by (known_function fs x)
-
--- the types of locals and the number of globals stay, and no function is defined
+-- the types of locals, the number of globals and the functions that are defined stay
 pub record IsSteady (w v : World) : Type 0 where
   pub locals : local_types v ≡ local_types w
   pub globals : v.globals ≡ w.globals
-  pub defined : (x : Name) (f : FnTy) → defined_in v.functions x ≡ Some f → defined_in w.functions x ≡ Some f
+  pub defined : (x : Name) → defined_in v.functions x ≡ defined_in w.functions x
 
 pub steady-same : (w : World) → IsSteady w w
-steady-same w = record { locals = refl; globals = refl; defined = λ x f is. is }
+steady-same w = record { locals = refl; globals = refl; defined = λ x. refl }
 
 pub steady-joined : (w v u : World) → IsSteady w v → IsSteady v u → IsSteady w u
 steady-joined w v u first second = record {
   locals = second.locals ∙ first.locals;
   globals = second.globals ∙ first.globals;
-  defined = λ x f is. first.defined x f (second.defined x f is);
+  defined = λ x. second.defined x ∙ first.defined x;
 }
 
 -- scopes and bodies of structs stay too
@@ -310,19 +302,19 @@ module _ (grow : TablesGrow) (k : Context) (gs : List Ty) where
   }
 
   pub quiet-addressed : (w : World) (n : ℕ) → IsQuiet w (record w { locals = addressed_at n w.locals })
-  quiet-addressed w n = record { scopes = refl; bodies = λ s. refl; steady = record { locals = addressed-types n w.locals; globals = refl; defined = λ x f is. is } }
+  quiet-addressed w n = record { scopes = refl; bodies = λ s. refl; steady = record { locals = addressed-types n w.locals; globals = refl; defined = λ x. refl } }
 
   pub quiet-text : (w : World) (bytes : List ℕ) → IsQuiet w (record w { strings = w.strings ++ bytes ∷ [] })
-  quiet-text w bytes = record { scopes = refl; bodies = λ s. refl; steady = record { locals = refl; globals = refl; defined = λ x f is. is } }
+  quiet-text w bytes = record { scopes = refl; bodies = λ s. refl; steady = record { locals = refl; globals = refl; defined = λ x. refl } }
 
   pub quiet-used : (w : World) (x : Name) → IsQuiet w (record w { functions = with_function (marked true false) w.functions x })
-  quiet-used w x = record { scopes = refl; bodies = λ s. refl; steady = record { locals = refl; globals = refl; defined = λ y f is. sym (used-defined w.functions x y) ∙ is } }
+  quiet-used w x = record { scopes = refl; bodies = λ s. refl; steady = record { locals = refl; globals = refl; defined = λ y. used-defined w.functions x y } }
 
   -- ---- tags and bodies of structs
 
   new_tag-goes : (x : Name) (w : World) → Goes k gs quiet w (new_tag x w) (λ n. Unit {0})
   new_tag-goes x w = ruled k gs broken.Tag (nat_lt (length w.structs) most_tags) _ (λ few.
-      changed {a = length w.structs} w (record w { structs = with_tag w.structs x }) (record { scopes = refl; bodies = tagged-bodies w.structs x; steady = record { locals = refl; globals = refl; defined = λ y f is. is } }) (λ b. (below-structs w (with_tag w.structs x) (grow.declared w.structs x) b, tt)))
+      changed {a = length w.structs} w (record w { structs = with_tag w.structs x }) (record { scopes = refl; bodies = tagged-bodies w.structs x; steady = record { locals = refl; globals = refl; defined = λ y. refl } }) (λ b. (below-structs w (with_tag w.structs x) (grow.declared w.structs x) b, tt)))
 
   tag_by-goes : (x : Name) (o : Option ℕ) (w : World) → Goes k gs quiet w (tag_by x o w) (λ n. Unit {0})
   tag_by-goes x None w = new_tag-goes x w
@@ -356,5 +348,5 @@ module _ (grow : TablesGrow) (k : Context) (gs : List Ty) where
   pub define-goes : (n : ℕ) (ms : List Member) (w : World) → Goes k gs defining w (define n ms w) (λ u. Unit {0})
   unfolding define
   define-goes n ms w = ruled k gs broken.Tag (is_undefined w.structs n && are_members w.structs ms) _ (λ holds.
-      redefined w (record w { structs = with_body w.structs n ms }) (record { scopes = refl; steady = record { locals = refl; globals = refl; defined = λ y f is. is } })
+      redefined w (record w { structs = with_body w.structs n ms }) (record { scopes = refl; steady = record { locals = refl; globals = refl; defined = λ y. refl } })
       (λ b. (below-structs w (with_body w.structs n ms) (extends-defined w.structs n ms (both (is_undefined w.structs n) (are_members w.structs ms) holds).0) b, tt)))

@@ -1,5 +1,5 @@
 -- What holds of the typed forms of sources, and of what each walk finds.
-use Rattle.std.specs.Prelude.{◌≡◌, Bool, true, false, List, ◌++◌, length, map, Some, Ok}
+use Rattle.std.specs.Prelude.{◌≡◌, Bool, true, false, IsTrue, List, [], ◌∷◌, ◌++◌, length, map, Some, Ok}
 use Rattle.std.specs.List.{AllByRecursion}
 use Rattle.c_tree.specs.declared.expression.Declarator.{Declarator}
 use Rattle.c_tree.specs.declared.expression.Expr.{Expr}
@@ -29,10 +29,10 @@ use Rattle.c_typing.specs.Functions.{typed_function}
 use Rattle.c_typing.specs.Initialisers.{typed_init}
 use Rattle.c_typing.specs.Statements.{typed_block}
 use Rattle.c_typing.specs.Theorems.{HasForm}
-use Rattle.c_typed_rows.specs.Contexts.{Context}
+use Rattle.c_typed_rows.specs.Contexts.{Context, Signature}
 use Rattle.c_typed_rows.specs.Expressions.{IsTypedDeclared, IsTypedSpec, IsTypedValue}
 use Rattle.c_typed_rows.specs.Initialisers.{IsTypedInit}
-use Rattle.c_typed_rows.specs.Sources.{are_numbered, declared_globals, globals}
+use Rattle.c_typed_rows.specs.Sources.{HasMain, are_distinct, are_numbered, declared_globals, file_context, globals, signature}
 use Rattle.c_typed_rows.specs.Statements.{IsTypedBlock, IsTypedDecl}
 use Rattle.c_typing_laws.specs.Worlds.{AreFirst, Below, HaveNoParameter, IsFile, ScopesFit, local_types}
 
@@ -52,9 +52,9 @@ pub record Between (k : Context) (before : List Ty) (w new : World) : Type 0 whe
   pub no_parameter : HaveNoParameter w.scopes
   pub known : Below k new
 
--- what a declaration that is an item leaves, behind global variables of these types
-pub record DeclaresGlobals (before : List Ty) (x : TypedDecl) (new : World) : Type 0 where
-  pub file : IsFile (before ++ map (λ g. g.ty) (declared_globals x.declarators)) new
+-- what a declaration that is an item leaves, behind global variables of these types and these definitions of functions
+pub record DeclaresGlobals (before : List Ty) (fs : List Signature) (x : TypedDecl) (new : World) : Type 0 where
+  pub file : IsFile (before ++ map (λ g. g.ty) (declared_globals x.declarators)) fs new
   pub numbered : are_numbered (length before) (declared_globals x.declarators)
   pub rows :
       (k : Context)
@@ -69,9 +69,9 @@ pub record DefinesFunction (k : Context) (f : TypedFn) : Type 0 where
   pub bounds : IsTypedDeclared k f.declared
   pub block : IsTypedBlock (record k { locals = f.locals; result = (out-FnTy type).result }) f.block
 
--- what a definition leaves, behind global variables of these types
-pub record LeavesFile (before : List Ty) (f : TypedFn) (new : World) : Type 0 where
-  pub file : IsFile before new
+-- what a definition leaves, behind global variables of these types and these definitions of functions
+pub record LeavesFile (before : List Ty) (fs : List Signature) (f : TypedFn) (new : World) : Type 0 where
+  pub file : IsFile before (fs ++ signature f ∷ []) new
   pub rows : (k : Context) → AreFirst k before → Below k new → DefinesFunction k f
 
 -- an item whose levels meet their rows
@@ -80,17 +80,12 @@ ItemMeetsRow k (item.Decl d) = IsTypedDecl k d
 ItemMeetsRow k (item.Typedef s ds) = IsTypedSpec k s × AllByRecursion (IsTypedDeclared k) ds
 ItemMeetsRow k (item.Function f) = IsTypedSpec k f.spec × DefinesFunction k f
 
--- a whole source whose levels meet their rows, in each context that has what is known behind its last item
+-- a whole source whose levels meet their rows
 pub record SourceMeetsRows (t : Typed) : Type 0 where
-  pub known : World
-  pub structs : known.structs ≡ t.structs
-  pub strings : known.strings ≡ t.strings
+  pub items : AllByRecursion (ItemMeetsRow (file_context t)) t.items
+  pub distinct : IsTrue (are_distinct (file_context t).functions)
   pub numbered : are_numbered 0 (globals t.items)
-  pub rows :
-      (k : Context)
-      → AreFirst k (map (λ g. g.ty) (globals t.items))
-      → Below k known
-      → AllByRecursion (ItemMeetsRow k) t.items
+  pub main : HasMain (file_context t)
 
 -- the typed form of a source is such a one
 abbrev pub TypedSourcesMeetRows : Type 0
@@ -121,12 +116,13 @@ pub record WalksMeetRows : Type 0 where
       → IsTypedBlock k x
   -- outside functions
   pub global_declaration :
-      (before : List Ty) (d : Decl) (w new : World) (x : TypedDecl)
+      (before : List Ty) (fs : List Signature) (d : Decl) (w new : World) (x : TypedDecl)
       → typed_decl true d w ≡ Ok (x, new)
-      → IsFile before w
-      → DeclaresGlobals before x new
+      → IsFile before fs w
+      → DeclaresGlobals before fs x new
   pub definition :
-      (before : List Ty) (s : TypedSpec) (base : Ty) (d : Declarator) (b : Block) (w new : World) (f : TypedFn)
+      (before : List Ty) (fs : List Signature) (s : TypedSpec) (base : Ty) (d : Declarator) (b : Block) (w new : World)
+      (f : TypedFn)
       → typed_function s base d b w ≡ Ok (f, new)
-      → IsFile before w
-      → LeavesFile before f new
+      → IsFile before fs w
+      → LeavesFile before fs f new

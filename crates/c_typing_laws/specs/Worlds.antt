@@ -1,7 +1,8 @@
 -- What is known at a place of a source, beside a context: what names in scope stand for, and that the context has all that
 -- is known.
-use Rattle.std.specs.Prelude.{◌≡◌, ℕ, true, List, [], length, map, Option, Some, None, slice_get}
+use Rattle.std.specs.Prelude.{◌≡◌, ℕ, true, if◌then◌else◌, IsTrue, List, [], length, map, Option, Some, None, slice_get}
 use Rattle.std.specs.List.{AllByRecursion}
+use Rattle.c_types.specs.declared.ty.FnTy.{FnTy}
 use Rattle.c_types.specs.declared.ty.Ty.{Ty}
 use Rattle.c_types.specs.Theorems.{Extends}
 use Rattle.c_typed.specs.declared.entity.Entity.{Entity}
@@ -13,7 +14,8 @@ use Rattle.c_scope.specs.declared.scopes.Meaning.TheVariants as means
 use Rattle.c_scope.specs.declared.world.KnownFunction.{KnownFunction}
 use Rattle.c_scope.specs.declared.world.World.{World}
 use Rattle.c_scope.specs.Scopes.{known_function}
-use Rattle.c_typed_rows.specs.Contexts.{Context, Name, defined_as, global_type}
+use Rattle.c_typed_rows.specs.Contexts.{Context, Name, Signature, defined_as, global_type}
+use Rattle.c_typed_rows.specs.Sources.{are_distinct}
 
 -- ---- scopes
 
@@ -66,12 +68,22 @@ pub record Below (k : Context) (w : World) : Type 0 where
 abbrev pub local_types : World → List Ty
 local_types w = map (λ l. l.ty) w.locals
 
--- what is known outside functions, behind global variables of these types
-pub record IsFile (gs : List Ty) (w : World) : Type 0 where
+-- the type of a function that is defined
+abbrev pub defined_by : Option KnownFunction → Option FnTy
+defined_by None = None
+defined_by (Some f) = if f.is_defined then Some f.ty else None
+
+abbrev pub defined_in : List KnownFunction → Name → Option FnTy
+defined_in fs x = defined_by (known_function fs x)
+
+-- what is known outside functions, behind global variables of these types and the definitions of these functions
+pub record IsFile (gs : List Ty) (fs : List Signature) (w : World) : Type 0 where
   pub scopes : ScopesFit gs (local_types w) w.scopes
   pub no_parameter : HaveNoParameter w.scopes
   pub no_local : local_types w ≡ []
   pub count : w.globals ≡ length gs
+  pub defined : (x : Name) → defined_in w.functions x ≡ defined_as fs x
+  pub distinct : IsTrue (are_distinct fs)
 
 -- these are the types of the context's first global variables
 abbrev pub AreFirst : Context → List Ty → Type 0

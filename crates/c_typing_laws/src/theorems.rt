@@ -2,7 +2,7 @@
 
 ghost use Rattle.c_typing_laws.specs.Theorems.{TypedSourcesKeepTheirTrees, TypedSourcesMeetRows, WalksMeetRows};
 
-use c_types::{tables_grow, units_stay};
+use c_types::{same_is_equality, tables_grow, units_stay};
 
 /// The typed form of a source, without its types, is that source.
 pub fn typed_sources_keep_their_trees()
@@ -16,12 +16,14 @@ pub fn walks_meet_rows()
 {
     units_stay();
     tables_grow();
+    same_is_equality();
 }
 
-/// Each level of the typed form of a source meets its row, in each context that has what is known behind the last item.
+/// Each level of the typed form of a source meets its row, among the functions, global variables, structs and strings of that form.
 pub fn typed_sources_meet_rows()
     ensures { TypedSourcesMeetRows }
 {
     units_stay();
     tables_grow();
+    same_is_equality();
 }

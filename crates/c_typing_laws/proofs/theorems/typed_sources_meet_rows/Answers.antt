@@ -2,4 +2,4 @@ use Rattle.c_typing_laws.proofs.ItemsMeetRows.{source-meets}
 use Rattle.c_typing_laws.proofs.theorems.typed_sources_meet_rows.Goals as goal
 
 pub returns : goal.returns
-returns c = source-meets c.units_stay.ensures c.tables_grow.ensures
+returns c = source-meets c.units_stay.ensures c.tables_grow.ensures c.same_is_equality.ensures
