@@ -221,11 +221,13 @@ module _ (stay : UnitsStay) (grow : TablesGrow) where
         let h = (of_naming fs gs w (declare_function x f w) (λ k first. declared-goes k gs first x f w)).found a.0 a.1.0 at in
         let u : World = a.0.1 in
         subst (λ (s : FnTy × World). (f ≡ s.0) × Defines gs x f w s.1)
-        (ended f (record u { functions = with_function (marked false true) u.functions x; locals = [] }) r a.1.1)
-        (refl, record {
-          file = marked-file gs x f w u at h.0 may (declared-known x f w may a.0 a.1.0);
-          below = λ k first b. (h.1 k first (below-defined k u x h.0.no_local b)).0;
-        })
+        (ended f (record u { functions = with_function (marked false true) u.functions x; locals = [] }) r a.1.1) (
+          refl,
+          record {
+            file = marked-file gs x f w u at h.0 may (declared-known x f w may a.0 a.1.0);
+            below = λ k first b. (h.1 k first (below-defined k u x h.0.no_local b)).0;
+          },
+        )
 
     -- a definition, by its declarator's layers
     record DefinesBy (gs : List Ty) (base : Ty) (d : LayeredDeclarator) (w : World) (r : FnTy × World) : Type 0 where
@@ -287,19 +289,21 @@ module _ (stay : UnitsStay) (grow : TablesGrow) where
         let t : FnTy = p.0.0 in
         let named : name_of (declared x.0.tree (ty.Function t)) ≡ x.0.name = declared-name d w x (ty.Function t) is in
         let typed : unwrap_or (function_of (out-Declared (declared x.0.tree (ty.Function t))).ty) no_type ≡ t =
-            ap (λ u. unwrap_or (function_of u) no_type) (declared-ty x.0.tree (ty.Function t)) ∙ ap (λ o. unwrap_or o no_type) (function-is t) in
+        ap (λ u. unwrap_or (function_of u) no_type) (declared-ty x.0.tree (ty.Function t)) ∙ ap (λ o. unwrap_or o no_type) (function-is t) in
         record {
           file = subst (λ (g : Signature). IsFile gs (fs ++ g ∷ []) p.1) (sym (λ i. record { name = named i; ty = typed i })) parts_too.file;
           spec = refl;
           rows = λ k first below.
               let m = parts_too.rows k first below in
-              let n = known k first m.0 in
-              (n.0, record {
-                type = t;
-                ty = declared-ty x.0.tree (ty.Function t);
-                bounds = parts.declared-made k x.0.tree (ty.Function t) n.1;
-                block = m.1;
-              });
+              let n = known k first m.0 in (
+                n.0,
+                record {
+                  type = t;
+                  ty = declared-ty x.0.tree (ty.Function t);
+                  bounds = parts.declared-made k x.0.tree (ty.Function t) n.1;
+                  block = m.1;
+                },
+              );
         }
 
     pub function-found : (gs : List Ty) (s : TypedSpec) (base : Ty) (d : Declarator) (b : Block) (w : World) → IsFile gs fs w
