@@ -22,6 +22,5 @@ mod RowsOfWalks
 mod FileDeclarationsMeetRows
 mod FunctionsMeetRows
 mod DeclaredNames
-mod ScalarParameters
 mod DefinedFunctions
 mod ItemsMeetRows
