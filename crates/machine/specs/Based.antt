@@ -1,4 +1,5 @@
--- Based on: every pointer with bounds has those of an object that was made before it, every function is one whose address
+-- Based on: every pointer with bounds has those of an object that was made before it, every function is one
+-- whose address
 -- the program takes, and the safe store is accessed at addresses that were just touched.
 use Rattle.std.specs.Prelude.{◌≡◌, ◌⊎◌, ℕ, pos, true, false, ◌+◌, ◌*◌, ◌-◌, ◌<◌, ◌≤◌, List, [], ◌∷◌, ◌++◌, map, Option, Some, None, Contains, slice_get}
 use Rattle.std.specs.FinMap.{get}
@@ -17,6 +18,7 @@ use Rattle.meaning.specs.declared.value.Entry.{Entry}
 use Rattle.meaning.specs.declared.value.Value.{Value}
 use Rattle.meaning.specs.declared.value.Value.TheVariants.{Bare, Based, Code as CodeValue}
 use Rattle.sensitivity.specs.declared.class.Class.{Class}
+use Rattle.machine.specs.Addresses.{argument_address, start_address}
 use Rattle.machine.specs.declared.code.Code.{Code}
 use Rattle.machine.specs.declared.code.CodeFunction.{CodeFunction}
 use Rattle.machine.specs.declared.code.CodeLocal.{CodeLocal}
@@ -24,7 +26,7 @@ use Rattle.machine.specs.declared.code.CodePlace.{CodePlace}
 use Rattle.machine.specs.declared.code.CodePlace.TheVariants.{Touch, Load, Store as StorePlace, Enter, Malloc, StartArg, StartFn}
 use Rattle.machine.specs.Frames.{Frame, Thread, Running}
 use Rattle.machine.specs.Numbers.{low_word}
-use Rattle.machine.specs.Protected.{argument_address, protected, start_address}
+use Rattle.machine.specs.Protected.{protected}
 use Rattle.machine.specs.Run.{Setting, Site, State, Step, Turned, happens, opening, state_after, steps_from}
 use Rattle.machine.specs.Shapes.{number_in, register}
 use Rattle.machine.specs.Threads.{place_at}
@@ -50,13 +52,13 @@ locals_in (Some f) = f.locals
 abbrev pub frame_objects : Code → ℕ → ℕ → List Object
 frame_objects code f id = map (local_object id) (locals_in (slice_get code.functions f))
 
-abbrev pub given_object : Frame Value → ℕ → ℕ → Object
-given_object top a id =
+abbrev pub allocated_object : Frame Value → ℕ → ℕ → Object
+allocated_object top a id =
     record { lower = 64 * id; upper = 64 * id + low_word (number_in protected top a); id = id }
 
 abbrev pub made_by : Code → Frame Value → ℕ → Option CodePlace → List Object
 made_by code top id (Some Enter) = frame_objects code top.function id
-made_by code top id (Some (Malloc d a)) = given_object top a id ∷ []
+made_by code top id (Some (Malloc d a)) = allocated_object top a id ∷ []
 made_by code top id _ = []
 
 abbrev pub made_in : Code → Option (Thread Value) → ℕ → List Object
@@ -134,7 +136,8 @@ abbrev pub ValuesAreKept : Program → Setting → Type 0
 ValuesAreKept program setting =
     (objects : List Object) (s : State) (e : Event)
     → IsBased program setting.code objects s
-    → IsBased program setting.code (made setting.code s (happens setting s e).step ++ objects) (happens setting s e).after
+    → IsBased program setting.code (made setting.code s (happens setting s e).step ++ objects)
+    (happens setting s e).after
 
 -- ---- accesses of the safe store
 
@@ -160,9 +163,11 @@ pub record IsLastTurn (before : List Step) (t : ℕ) (step : Step) : Type 0 wher
 abbrev pub site_before : Site → Site
 site_before site = record site { place = site.place - 1 }
 
--- The register has a pointer inside its bounds, to this address, and the thread's turn before touched it: its object's id
+-- The register has a pointer inside its bounds, to this address, and the thread's turn before touched it: its
+-- object's id
 -- wasn't ended.
-pub record IsTouched (code : Code) (before : List Step) (t : ℕ) (site : Site) (top : Frame Value) (p a : ℕ) : Type 0 where
+pub record IsTouched (code : Code) (before : List Step) (t : ℕ) (site : Site) (top : Frame Value) (p a : ℕ)
+    : Type 0 where
   pub lower : ℕ
   pub upper : ℕ
   pub id : ℕ
@@ -207,7 +212,8 @@ AccessesAreRight setting s events =
 
 -- ---- runs
 
--- Behind each event of a run, with so many threads, the values are known by the objects that were made so far, and each get
+-- Behind each event of a run, with so many threads, the values are known by the objects that were made so far,
+-- and each get
 -- and put is right.
 pub record BasedOn (program : Program) (setting : Setting) (threads : ℕ) (events : List Event) : Type 0 where
   pub values :

@@ -11,9 +11,10 @@ use Rattle.meaning.specs.declared.event.Event.{Event}
 use Rattle.meaning.specs.declared.event.Event.TheVariants.{Corrupt, Cut}
 use Rattle.meaning.specs.declared.value.Value.{Value}
 use Rattle.meaning.specs.Legal.{Call}
+use Rattle.machine.specs.Addresses.{start_address}
 use Rattle.machine.specs.declared.code.Code.{Code}
 use Rattle.machine.specs.Frames.{Thread, Waiting, Running, has_begun, is_live}
-use Rattle.machine.specs.Protected.{next, protected, resume, start_address}
+use Rattle.machine.specs.Protected.{next, protected, resume}
 use Rattle.machine.specs.Run.{Idle, Setting, State, Step, Turned, happens, opening, state_after, steps_from}
 use Rattle.machine.specs.Store.{input_at, word_at}
 use Rattle.machine.specs.Threads.{opened}

@@ -1,4 +1,5 @@
--- The unprotected machine: C on one memory, where return words stand too. Its turns are over the values of a domain: numbers
+-- The unprotected machine: C on one memory, where return words stand too. Its turns are over the values of a
+-- domain: numbers
 -- alone, or numbers with shadows.
 use Rattle.std.specs.Prelude.{ℕ, suc, ℤ, pos, negsuc, ◌+◌, ◌-◌, ◌*◌, ◌%◌, ◌^◌, Bool, true, not, ◌&&◌, if◌then◌else◌, nat_eq, nat_lt, nat_le, List, [], ◌∷◌, length, replicate, Option, Some, None, slice_get, slice_set}
 use Rattle.std.specs.FinMap.{empty, insert}
@@ -13,14 +14,15 @@ use Rattle.meaning.specs.declared.event.Event.TheVariants.{Turn, Corrupt, Cut}
 use Rattle.meaning.specs.declared.note.Place.{Place}
 use Rattle.meaning.specs.declared.value.Stop.{Stop}
 use Rattle.meaning.specs.declared.value.Stop.TheVariants.{Budget, Depth, Divide, Hijack, Slots, Wild}
+use Rattle.machine.specs.Addresses.{argument_address, done_address, slots_for, start_address}
 use Rattle.machine.specs.declared.code.Code.{Code}
 use Rattle.machine.specs.declared.code.CodePlace.{CodePlace}
-use Rattle.machine.specs.declared.code.Kind.{Kind}
-use Rattle.machine.specs.declared.code.Kind.TheVariants as kind
+use Rattle.machine.specs.declared.code.ScalarKind.{ScalarKind}
+use Rattle.machine.specs.declared.code.ScalarKind.TheVariants as kind
 use Rattle.machine.specs.Domain.{Callee, Domain, Reaches, Refused}
 use Rattle.machine.specs.Frames.{Frame, Thread, Waiting, Starting, Running, Stopped, Effect, Stops, Goes, Enters, Leaves, Nothing, ToObject, has_begun, is_live}
 use Rattle.machine.specs.Numbers.{is_kept, is_zero, low_word, truncated}
-use Rattle.machine.specs.Protected.{argument_address, done_address, finds_zero, give_action, is_no_thread, is_thread_number, slots_for, start_address, word_of}
+use Rattle.machine.specs.Protected.{finds_zero, allocate_action, is_no_thread, is_thread_number, word_of}
 use Rattle.machine.specs.Run.{Step, Turned, Wrote, CutOff, Idle, first_drawn, site_of}
 use Rattle.machine.specs.Shapes as shape
 use Rattle.machine.specs.Shapes.{Shape, blank, shape_of}
@@ -45,7 +47,7 @@ callee_at code (pos n) = function_at code n
 callee_at code (negsuc n) = Refused Wild
 
 -- a pointer that both kinds keep stays as it is
-abbrev pub cast_number : Kind → Kind → ℤ → ℤ
+abbrev pub cast_number : ScalarKind → ScalarKind → ℤ → ℤ
 cast_number from to n = if is_kept from && is_kept to then n else truncated to n
 
 abbrev pub plain : Domain
@@ -164,7 +166,7 @@ module _ (D : Domain) (W : Words D) where
   plain_action code t top below (shape.Returns v) = plain_return t below
   plain_action code t top below shape.Enters = act.Alloc (slots_for (frame_units code top.function))
   plain_action code t top below shape.Leaves = act.Own
-  plain_action code t top below (shape.Gives d n) = give_action n
+  plain_action code t top below (shape.Allocates d n) = allocate_action n
   plain_action code t top below (shape.Frees p) = act.Own
   plain_action code t top below (shape.Forks d) = act.Fork
   plain_action code t top below (shape.StartsArgument n a) = write_action (start_word 65 n a)
@@ -191,9 +193,9 @@ module _ (D : Domain) (W : Words D) where
   drawn_by top (reply.Slot (Some s)) = Goes (top.place + 1) (ToObject s)
   drawn_by top _ = Stops Slots
 
-  abbrev pub given_by : ℤ → Reply → D.V
-  given_by n (reply.Slot (Some s)) = D.object (64 * s) (low_word n) s true
-  given_by n _ = blank D
+  abbrev pub allocated_by : ℤ → Reply → D.V
+  allocated_by n (reply.Slot (Some s)) = D.object (64 * s) (low_word n) s true
+  allocated_by n _ = blank D
 
   abbrev pub thread_by : Reply → D.V
   thread_by (reply.Thread (Some n)) = D.bare (pos n)
@@ -213,7 +215,7 @@ module _ (D : Domain) (W : Words D) where
   plain_effect code top below found answer (shape.Returns v) = returns_by below found v
   plain_effect code top below found answer shape.Enters = drawn_by top answer
   plain_effect code top below found answer shape.Leaves = goes_on D top
-  plain_effect code top below found answer (shape.Gives d n) = defines D top d (given_by n answer)
+  plain_effect code top below found answer (shape.Allocates d n) = defines D top d (allocated_by n answer)
   plain_effect code top below found answer (shape.Frees p) = goes_on D top
   plain_effect code top below found answer (shape.Forks d) = defines D top d (thread_by answer)
   plain_effect code top below found answer (shape.StartsArgument n a) = goes_on D top
@@ -288,7 +290,8 @@ module _ (D : Domain) (W : Words D) where
 
   -- a lock that finds 0 sets 1
   abbrev pub locked : W.M → Action → W.M
-  locked memory (act.TryLock a) = if is_zero (D.number (W.at memory a)) then W.with memory a (D.bare (pos 1)) else memory
+  locked memory (act.TryLock a) =
+      if is_zero (D.number (W.at memory a)) then W.with memory a (D.bare (pos 1)) else memory
   locked memory _ = memory
 
   abbrev pub memory_after : Code → ℕ → Thread D.V → Action → W.M → W.M
@@ -390,4 +393,5 @@ plain_slots = 1048576
 
 abbrev pub plain_run : Code → List ℤ → List Event → List Step
 plain_run code inputs events =
-    plain_steps plain plain_words code inputs plain_slots (plain_opening plain plain_words code empty plain_threads) events
+    plain_steps plain plain_words code inputs plain_slots
+    (plain_opening plain plain_words code empty plain_threads) events
