@@ -1,5 +1,5 @@
 -- What calls open, and what the effect of an answered instruction does to its thread and tells of it.
-use Rattle.std.specs.Prelude.{ℕ, suc, ◌+◌, ◌-◌, ◌*◌, Bool, ◌&&◌, nat_lt, nat_le, List, [], ◌∷◌, ◌++◌, length, replicate, take, Option, Some, None, slice_get, slice_set}
+use Rattle.std.specs.Prelude.{ℕ, suc, ◌+◌, ◌-◌, Bool, ◌&&◌, nat_lt, nat_le, List, [], ◌∷◌, ◌++◌, length, replicate, take, Option, Some, None, slice_get, slice_set}
 use Rattle.c_types.specs.declared.ty.FnTy.{out-FnTy}
 use Rattle.meaning.specs.declared.note.Note.{Note}
 use Rattle.meaning.specs.declared.note.Note.TheVariants as note
