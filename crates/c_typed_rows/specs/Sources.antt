@@ -1,5 +1,5 @@
 -- What holds of a typed source.
-use Rattle.std.specs.Prelude.{◌≡◌, ℕ, suc, Bool, true, ◌&&◌, ◌||◌, codes, IsTrue, List, [], ◌∷◌, ◌++◌}
+use Rattle.std.specs.Prelude.{◌≡◌, ℕ, suc, Bool, true, not, ◌&&◌, ◌||◌, codes, IsTrue, List, [], ◌∷◌, ◌++◌}
 use Rattle.std.specs.Prelude.{length, map, Some, is_none, take}
 use Rattle.std.specs.List.{AllByRecursion, list_all}
 use Rattle.std.specs.Option.{unwrap_or}
@@ -20,7 +20,7 @@ use Rattle.c_typed.specs.declared.unit.TypedItem.TheVariants as item
 use Rattle.c_scope.specs.Definitions.{is_main_type}
 use Rattle.c_typed_rows.specs.Contexts.{Context, Name, Signature, defined_as}
 use Rattle.c_typed_rows.specs.Expressions.{IsTypedDeclared, IsTypedSpec}
-use Rattle.c_typed_rows.specs.Statements.{IsTypedBlock, IsTypedDecl}
+use Rattle.c_typed_rows.specs.Statements.{IsTypedBlock, IsTypedDecl, jumps_out}
 
 -- ---- what a source defines
 
@@ -97,7 +97,7 @@ pub record IsFunctionType (f : FnTy) : Type 0 where
   pub params : IsTrue (list_all is_scalar (out-FnTy f).params)
   pub result : IsTrue (is_scalar (out-FnTy f).result || is_void (out-FnTy f).result)
 
--- Its locals begin with its parameters, and each has units.
+-- Its locals begin with its parameters, and each has units; each `break` and `continue` stands in a loop.
 pub record IsTypedFn (k : Context) (f : TypedFn) : Type 0 where
   pub spec : IsTypedSpec k f.spec
   pub bounds : IsTypedDeclared k f.declared
@@ -106,6 +106,7 @@ pub record IsTypedFn (k : Context) (f : TypedFn) : Type 0 where
   pub params : take (length (out-FnTy (type_of f)).params) (map (λ l. l.ty) f.locals) ≡ (out-FnTy (type_of f)).params
   pub units : IsTrue (list_all (λ l. has_units k.structs l.ty) f.locals)
   pub block : IsTypedBlock (function_context k f) f.block
+  pub jumps : IsTrue (not (jumps_out f.block))
 
 abbrev pub IsTypedItem : Context → TypedItem → Type 0
 IsTypedItem k (item.Decl d) = IsTypedDecl k d

@@ -1,6 +1,6 @@
 -- What each form of a statement and of a declaration meets.
-use Rattle.std.specs.Prelude.{◌≡◌, not, IsTrue, Option, Some, None}
-use Rattle.std.specs.List.{AllByRecursion}
+use Rattle.std.specs.Prelude.{◌≡◌, Bool, true, false, not, ◌||◌, IsTrue, Option, Some, None}
+use Rattle.std.specs.List.{AllByRecursion, list_any}
 use Rattle.c_types.specs.declared.ty.FnTy.{FnTy}
 use Rattle.c_types.specs.declared.ty.Ty.{Ty}
 use Rattle.c_types.specs.declared.ty.Ty.TheVariants as ty
@@ -9,9 +9,9 @@ use Rattle.c_types.specs.Units.{has_units}
 use Rattle.c_typed.specs.declared.entity.Entity.{Entity}
 use Rattle.c_typed.specs.declared.entity.Entity.TheVariants as entity
 use Rattle.c_typed.specs.declared.expression.Declared.{out-Declared}
-use Rattle.c_typed.specs.declared.statement.TypedBlock.{TypedBlock, every-TypedBlock}
+use Rattle.c_typed.specs.declared.statement.TypedBlock.{TypedBlock, every-TypedBlock, fold-TypedBlock}
 use Rattle.c_typed.specs.declared.statement.TypedBlockItem.{TypedBlockItem}
-use Rattle.c_typed.specs.declared.statement.TypedBlockItem.TheOpen.{TypedBlockItem-F, TypedStmt-F, TypedForLoop-F}
+use Rattle.c_typed.specs.declared.statement.TypedBlockItem.TheOpen.{TypedBlock-F, TypedBlockItem-F, TypedStmt-F, TypedForLoop-F}
 use Rattle.c_typed.specs.declared.statement.TypedDecl.{TypedDecl}
 use Rattle.c_typed.specs.declared.statement.TypedForInit.{TypedForInit}
 use Rattle.c_typed.specs.declared.statement.TypedForInit.TheVariants as for_init
@@ -98,6 +98,30 @@ pub record ForLevel (k : Context) (f : TypedForLoop-F TypedBlockItem TypedStmt T
 abbrev pub BlockItemLevel : Context → TypedBlockItem-F TypedBlockItem TypedStmt TypedBlock TypedForLoop → Type 0
 BlockItemLevel k (TypedBlockItem-F.Decl d) = IsTypedDecl k d
 BlockItemLevel k (TypedBlockItem-F.Stmt s) = Unit {0}
+
+-- ---- jumps
+
+-- whether a `break` or `continue` of a statement stands outside each loop of it
+abbrev pub stmt_jumps : TypedStmt-F Bool Bool Bool Bool → Bool
+stmt_jumps (TypedStmt-F.Block b) = b
+stmt_jumps (TypedStmt-F.If c s None) = s
+stmt_jumps (TypedStmt-F.If c s (Some o)) = s || o
+stmt_jumps TypedStmt-F.Break = true
+stmt_jumps TypedStmt-F.Continue = true
+stmt_jumps _ = false
+
+abbrev pub block_item_jumps : TypedBlockItem-F Bool Bool Bool Bool → Bool
+block_item_jumps (TypedBlockItem-F.Decl d) = false
+block_item_jumps (TypedBlockItem-F.Stmt s) = s
+
+abbrev pub block_jumps : TypedBlock-F Bool Bool Bool Bool → Bool
+block_jumps b = list_any (λ jumps. jumps) b.items
+
+-- the same of a block
+unfoldable pub jumps_out : TypedBlock → Bool
+jumps_out = fold-TypedBlock Bool Bool Bool Bool block_item_jumps stmt_jumps block_jumps (λ f. false)
+
+-- ---- blocks
 
 -- a block whose every statement and declaration meets its row
 unfoldable pub IsTypedBlock : Context → TypedBlock → Type 0

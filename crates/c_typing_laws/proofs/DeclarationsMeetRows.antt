@@ -1,17 +1,19 @@
 -- The walk of a declaration in a function finds what meets its rows.
-use Rattle.std.proofs.Common.{◌≡◌, ◌∙◌, ℕ, suc, Bool, true, false, ◌||◌, if◌then◌else◌, List, [], ◌∷◌, ◌++◌, length, map, Option, Some, None, slice_get, Ok, refl, ap, sym, subst}
+use Rattle.std.proofs.Common.{◌≡◌, ◌∙◌, ℕ, suc, Bool, true, false, ◌||◌, if◌then◌else◌, List, [], ◌∷◌, ◌++◌, length, map, Option, Some, None, slice_get, Ok, refl, ap, sym, subst, append_assoc}
+use Rattle.std.proofs.lemmas.List.{append-nil}
 use Rattle.std.specs.List.{AllByRecursion}
 use Rattle.std.specs.Option.{option_map}
 use Rattle.std.specs.Str.{bytes_eq}
 use Rattle.c_layers.specs.declared.layer.Shape.{Shape}
 use Rattle.c_layers.specs.declared.layer.Shape.TheVariants as shape
 use Rattle.c_layers.specs.Shapes.{is_function_shape, results_fit, shaped, whole_of}
+use Rattle.c_types.specs.declared.structs.StructDef.{StructDef}
 use Rattle.c_types.specs.declared.ty.FnTy.{FnTy}
 use Rattle.c_types.specs.declared.ty.Ty.{Ty, out-Ty, roll-Ty, roll-out-Ty}
 use Rattle.c_types.specs.declared.ty.Ty.TheOpen.{Ty-F}
 use Rattle.c_types.specs.declared.ty.Ty.TheVariants as ty
 use Rattle.c_types.specs.Kinds.{Outer, function_at, function_of, is_function, is_function_at}
-use Rattle.c_types.specs.Theorems.{TablesGrow, UnitsStay}
+use Rattle.c_types.specs.Theorems.{Extends, TablesGrow, UnitsStay}
 use Rattle.c_types.specs.Units.{has_units}
 use Rattle.c_tree.specs.declared.statement.Decl.{Decl}
 use Rattle.c_tree.specs.declared.statement.Init.{Init}
@@ -33,7 +35,7 @@ use Rattle.c_scope.specs.BuiltIns.{Name, built_in_named}
 use Rattle.c_scope.specs.Declarations.{may_be_declared}
 use Rattle.c_scope.specs.Definitions.{bind_function, declare_function, declare_function_by, declare_variable, is_bound_here, make_known, make_known_by}
 use Rattle.c_scope.specs.Scopes.{bind, bound_in, known_function, outer}
-use Rattle.c_scope.specs.Walk.{Outcome, ◌>>◌, each, pure, rule}
+use Rattle.c_scope.specs.Walk.{Outcome, ◌>>◌, each, found, pure, rule}
 use Rattle.c_expr_typing.specs.declared.layered.LayeredDeclarator.{LayeredDeclarator}
 use Rattle.c_expr_typing.specs.Trees.{declared}
 use Rattle.c_typing.specs.Declarations.{completed, declare, declare_all, declare_by, declared_type, optional_init, shaped_type, type_rules, typed_decl, typed_init_declarator}
@@ -41,32 +43,58 @@ use Rattle.c_typed_rows.specs.Contexts.{Context, global_type, local_type}
 use Rattle.c_typed_rows.specs.Statements.{DeclaredRow, IfInit, IsTypedDecl, IsTypedInitDeclarator, VariableRow}
 use Rattle.c_typed_rows.specs.Initialisers.{IsTypedInit}
 use Rattle.c_typing_laws.specs.Worlds.{Below, EntityFits, HaveNoParameter, LocalStands, MeaningFits, MeansNoParameter, ScopesFit, defined_by, defined_in, local_types}
-use Rattle.c_typing_laws.specs.inner.Goes.{Goes, Relation, Sound, after, ends, finds, never, ruled, weaker}
+use Rattle.c_typing_laws.specs.inner.Goes.{Goes, Relation, Sound, after, after_found, ends, finds, never, ruled, weaker}
+use Rattle.c_typing_laws.proofs.FoundSteps.{ended, option-found, rule-found, split}
 use Rattle.c_typing_laws.proofs.InitialisersMeetRows as inits
 use Rattle.c_typing_laws.proofs.PartsMeetRows.{binding-added, bound-fits, outer-bound}
 use Rattle.c_typing_laws.proofs.RowsStay as stays
 use Rattle.c_typing_laws.proofs.TypedParts as parts
 use Rattle.c_typing_laws.proofs.WalksMeetRows.{declarator-meets, spec-meets}
-use Rattle.c_typing_laws.proofs.WorldSteps.{IsQuiet, at_seam, below-scopes, in_front, quiet}
+use Rattle.c_typing_laws.proofs.WorldSteps.{IsQuiet, at_seam, below-scopes, extends-joined, extends-same, in_front, quiet}
 
 -- ---- what statements leave
 
--- scopes outside the innermost stay, no name stands for a parameter of a declarator that didn't, and nothing of the file's is declared
+-- each of these types has units
+abbrev pub HaveUnits : List StructDef → List Ty → Type 0
+HaveUnits defs ts = AllByRecursion (λ t. has_units defs t ≡ true) ts
+
+pub units-stay : UnitsStay → (defs more : List StructDef) → Extends defs more → (ts : List Ty) → HaveUnits defs ts → HaveUnits more ts
+units-stay stay defs more grown [] all = tt
+units-stay stay defs more grown (t ∷ ts) all = (stays.has_units-stays stay defs more grown t all.0, units-stay stay defs more grown ts all.1)
+
+units-last : (defs : List StructDef) (ts : List Ty) (t : Ty) → HaveUnits defs ts → has_units defs t ≡ true → HaveUnits defs (ts ++ t ∷ [])
+units-last defs [] t all units = (units, tt)
+units-last defs (u ∷ ts) t all units = (all.0, units-last defs ts t all.1 units)
+
+-- scopes outside the innermost stay, no name stands for a parameter of a declarator that didn't, nothing of the file's is declared, and
+-- locals are added that have units
 pub record IsWidening (w v : World) : Type 0 where
   pub scopes : outer v.scopes ≡ outer w.scopes
   pub clean : HaveNoParameter w.scopes → HaveNoParameter v.scopes
   pub globals : v.globals ≡ w.globals
   pub defined : (x : Name) → defined_in v.functions x ≡ defined_in w.functions x
+  pub grown : Extends w.structs v.structs
+  pub locals : (more : List Ty) × (local_types v ≡ local_types w ++ more)
+  pub units : HaveUnits w.structs (local_types w) → HaveUnits v.structs (local_types v)
+
+pub none_more : (w : World) → (more : List Ty) × (local_types w ≡ local_types w ++ more)
+none_more w = ([], sym (append-nil (local_types w)))
+
+pub both_more : (a b c : List Ty) → (more : List Ty) × (b ≡ a ++ more) → (more : List Ty) × (c ≡ b ++ more) → (more : List Ty) × (c ≡ a ++ more)
+both_more a b c first second = (first.0 ++ second.0, second.1 ∙ ap (λ ts. ts ++ second.0) first.1 ∙ append_assoc a first.0 second.0)
 
 abbrev pub widening : Relation
 widening = record {
   holds = IsWidening;
-  same = λ w. record { scopes = refl; clean = λ c. c; globals = refl; defined = λ x. refl };
+  same = λ w. record { scopes = refl; clean = λ c. c; globals = refl; defined = λ x. refl; grown = extends-same w.structs; locals = none_more w; units = λ h. h };
   joined = λ w v u first second. record {
     scopes = second.scopes ∙ first.scopes;
     clean = λ c. second.clean (first.clean c);
     globals = second.globals ∙ first.globals;
     defined = λ x. second.defined x ∙ first.defined x;
+    grown = extends-joined w.structs v.structs u.structs first.grown second.grown;
+    locals = both_more (local_types w) (local_types v) (local_types u) first.locals second.locals;
+    units = λ h. second.units (first.units h);
   };
 }
 
@@ -82,8 +110,16 @@ naming = record {
   joined = λ w v u first second. record { wide = widening.joined w v u first.wide second.wide; locals = second.locals ∙ first.locals };
 }
 
-pub quiet-is_widening : (w v : World) → IsQuiet w v → IsWidening w v
-quiet-is_widening w v q = record { scopes = ap outer q.scopes; clean = λ c. subst HaveNoParameter (sym q.scopes) c; globals = q.steady.globals; defined = q.steady.defined }
+pub quiet-is_widening : UnitsStay → (w v : World) → IsQuiet w v → IsWidening w v
+quiet-is_widening stay w v q = record {
+  scopes = ap outer q.scopes;
+  clean = λ c. subst HaveNoParameter (sym q.scopes) c;
+  globals = q.steady.globals;
+  defined = q.steady.defined;
+  grown = q.steady.grown;
+  locals = ([], q.steady.locals ∙ sym (append-nil (local_types w)));
+  units = λ h. subst (HaveUnits v.structs) (sym q.steady.locals) (units-stay stay w.structs v.structs q.steady.grown (local_types w) h);
+}
 
 -- ---- scopes with a name more
 
@@ -111,7 +147,7 @@ scopes-wider : (gs ls more : List Ty) (ss : List (List Binding)) → ScopesFit g
 scopes-wider gs ls more [] fit = tt
 scopes-wider gs ls more (s ∷ ss) fit = (scope-wider gs ls more s fit.0, scopes-wider gs ls more ss fit.1)
 
-types-wider : (ls : List Local) (l : Local) → map (λ l. l.ty) (ls ++ l ∷ []) ≡ map (λ l. l.ty) ls ++ l.ty ∷ []
+pub types-wider : (ls : List Local) (l : Local) → map (λ l. l.ty) (ls ++ l ∷ []) ≡ map (λ l. l.ty) ls ++ l.ty ∷ []
 types-wider [] l = refl
 types-wider (m ∷ ls) l = ap (λ ts. m.ty ∷ ts) (types-wider ls l)
 
@@ -173,9 +209,30 @@ shape_function (shape.Broken b) t is = cc
 pub declared-ty : (d : TypedDeclarator) (t : Ty) → (out-Declared (declared d t)).ty ≡ t
 declared-ty d t = ap (λ e. e.ty) (out-roll-Declared (record { declarator = d; ty = t }))
 
+-- what is asked of a declared type
+rules-found : (b : Bool) (t : Ty) (fits : Bool) (w : World) (r : Unit {0} × World) → type_rules b t fits w ≡ Ok r → ((b || has_units w.structs t) ≡ true) × (w ≡ r.1)
+unfolding type_rules
+rules-found b t fits w r is =
+    let a = split (rule broken.Unsized (b || has_units w.structs t) w) _ r is in
+    let h = rule-found broken.Unsized (b || has_units w.structs t) w a.0 a.1.0 in
+    let g = rule-found broken.Form fits a.0.1 r a.1.1 in
+    (h.0, h.1 ∙ g.1)
+
+allowed-found : (x : Name) (s : Shape) (fits : Bool) (w : World) (r : Ty × World) → declared_type x s fits w ≡ Ok r → (is_function r.0 || has_units r.1.structs r.0) ≡ true
+unfolding declared_type
+allowed-found x s fits w r is =
+    let a = split (rule broken.Redeclared (may_be_declared w x s) w) _ r is in
+    let b = split (found broken.Unsized (whole_of s) a.0.1) _ r a.1.1 in
+    let t = option-found broken.Unsized (whole_of s) a.0.1 b.0 b.1.0 in
+    let c = split (type_rules (is_function_shape s) b.0.0 fits b.0.1) _ r b.1.1 in
+    let h = rules-found (is_function_shape s) b.0.0 fits b.0.1 c.0 c.1.0 in
+    let here : (is_function b.0.0 || has_units b.0.1.structs b.0.0) ≡ true = subst (λ f. (f || has_units b.0.1.structs b.0.0) ≡ true) (shape_function s b.0.0 t.0) h.0 in
+    let there : (is_function b.0.0 || has_units c.0.1.structs b.0.0) ≡ true = subst (λ (v : World). (is_function b.0.0 || has_units v.structs b.0.0) ≡ true) h.1 here in
+    subst (λ (e : Ty × World). (is_function e.0 || has_units e.1.structs e.0) ≡ true) (ended b.0.0 c.0.1 r c.1.1) there
+
 module _ (stay : UnitsStay) (grow : TablesGrow) (k : Context) (gs : List Ty) (ahead : (n : ℕ) (t : Ty) → slice_get gs n ≡ Some t → global_type k n ≡ Some t) where
   pub widely : {A : Type 0} {Q : A → Type 0} {w : World} (o : Outcome (A × World)) → Goes k gs quiet w o Q → Goes k gs widening w o Q
-  widely {A} {Q} {w} o goes = record { found = λ r is sound. let h = goes.found r is sound in (quiet-is_widening w r.1 h.0, h.1, h.2) }
+  widely {A} {Q} {w} o goes = record { found = λ r is sound. let h = goes.found r is sound in (quiet-is_widening stay w r.1 h.0, h.1, h.2) }
 
   -- a step to a world that is known
   stepped_found : {A : Type 0} (Q : A → Type 0) (a : A) (w v : World) → IsWidening w v → (Sound k gs w → Sound k gs v) → (Below k v → Below k w × Q a) → (r : A × World)
@@ -206,15 +263,15 @@ module _ (stay : UnitsStay) (grow : TablesGrow) (k : Context) (gs : List Ty) (ah
   new_type [] x t = refl
   new_type (l ∷ ls) x t = new_type ls x t
 
-  pub variable-goes : (x : Name) (t : Ty) (w : World) → Goes k gs widening w (declare_variable false x t w)
+  pub variable-goes : (x : Name) (t : Ty) (w : World) → has_units w.structs t ≡ true → Goes k gs widening w (declare_variable false x t w)
       (λ e. (i : Option TypedInit) → VariableRow k t i → DeclaredRow k e t i)
   unfolding declare_variable bind
-  variable-goes x t w =
+  variable-goes x t w sized =
       let l : Local = record { name = x; ty = t; is_addressed = false } in
       let e : Entity = entity.Local (length w.locals) in
       let ss : List (List Binding) = bound_in w.scopes x (means.Variable e t) in
       stepped {a = e} w (record w { locals = w.locals ++ l ∷ []; scopes = ss })
-      (record { scopes = outer-bound w.scopes x (means.Variable e t); clean = bound-clean w.scopes x (means.Variable e t) tt; globals = refl; defined = λ y. refl })
+      (record { scopes = outer-bound w.scopes x (means.Variable e t); clean = bound-clean w.scopes x (means.Variable e t) tt; globals = refl; defined = λ y. refl; grown = extends-same w.structs; locals = (t ∷ [], types-wider w.locals l); units = λ h. subst (HaveUnits w.structs) (sym (types-wider w.locals l)) (units-last w.structs (local_types w) t h sized) })
       (λ sound. bound-fits gs (map (λ l. l.ty) (w.locals ++ l ∷ [])) w.scopes x (means.Variable e t)
       (subst (λ ts. ScopesFit gs ts w.scopes) (sym (types-wider w.locals l)) (scopes-wider gs (local_types w) (t ∷ []) w.scopes sound))
       (new_type w.locals x t))
@@ -249,7 +306,7 @@ module _ (stay : UnitsStay) (grow : TablesGrow) (k : Context) (gs : List Ty) (ah
   known-goes x f None w =
       let g : KnownFunction = record { name = x; ty = f; first = w.item; is_used = false; is_defined = false } in
       renamed {a = tt} w (record w { functions = w.functions ++ g ∷ [] })
-      (record { wide = record { scopes = refl; clean = λ c. c; globals = refl; defined = λ y. known-defines_none w.functions g y refl }; locals = refl })
+      (record { wide = record { scopes = refl; clean = λ c. c; globals = refl; defined = λ y. known-defines_none w.functions g y refl; grown = extends-same w.structs; locals = none_more w; units = λ h. h }; locals = refl })
       (λ sound. sound) (λ b. (known-below w g b, tt))
 
   pub bind_type-goes : (x : Name) (t : Ty) (w : World) → Goes k gs naming w ((bind x (means.TypeName t) >> pure t) w) (λ u. Unit {0})
@@ -262,6 +319,9 @@ module _ (stay : UnitsStay) (grow : TablesGrow) (k : Context) (gs : List Ty) (ah
           clean = bound-clean w.scopes x (means.TypeName t) tt;
           globals = refl;
           defined = λ y. refl;
+          grown = extends-same w.structs;
+          locals = none_more w;
+          units = λ h. h;
         };
         locals = refl;
       })
@@ -271,7 +331,7 @@ module _ (stay : UnitsStay) (grow : TablesGrow) (k : Context) (gs : List Ty) (ah
   unfolding bind
   bind_function-by x true w = ends k gs (λ b. tt)
   bind_function-by x false w = renamed {a = tt} w (record w { scopes = bound_in w.scopes x means.Function })
-      (record { wide = record { scopes = outer-bound w.scopes x means.Function; clean = bound-clean w.scopes x means.Function tt; globals = refl; defined = λ y. refl }; locals = refl })
+      (record { wide = record { scopes = outer-bound w.scopes x means.Function; clean = bound-clean w.scopes x means.Function tt; globals = refl; defined = λ y. refl; grown = extends-same w.structs; locals = none_more w; units = λ h. h }; locals = refl })
       (λ sound. bound-fits gs (local_types w) w.scopes x means.Function sound tt) (λ b. (below-scopes grow k gs w (bound_in w.scopes x means.Function) b, tt))
 
   pub named-goes : (x : Name) (f : FnTy) (w : World) → Goes k gs naming w ((make_known x f >> bind_function x) w) (λ u. Unit {0})
@@ -291,10 +351,10 @@ module _ (stay : UnitsStay) (grow : TablesGrow) (k : Context) (gs : List Ty) (ah
   units_alone true c never_so allowed = cc
   units_alone false c never_so allowed = allowed
 
-  declare-goes : (x : Name) (t : Ty) (o : Option FnTy) (w : World) → function_of t ≡ o
+  declare-goes : (x : Name) (t : Ty) (o : Option FnTy) (w : World) → function_of t ≡ o → (is_function t || has_units w.structs t) ≡ true
       → Goes k gs widening w (declare_by false x t o w) (λ e. (is_function t || has_units k.structs t) ≡ true → (i : Option TypedInit) → IfInit (IsTypedInit k t) i → DeclaredRow k e t i)
-  declare-goes x t (Some f) w is = weaker k gs _ (λ e holds allowed i h. holds i) (naming-widely _ (function-goes x f t (function_of-is t f is) w))
-  declare-goes x t None w is = weaker k gs _ (λ e holds allowed i h. holds i (record { units = units_alone (is_function t) (has_units k.structs t) (no_function t is) allowed; init = h })) (variable-goes x t w)
+  declare-goes x t (Some f) w is known = weaker k gs _ (λ e holds allowed i h. holds i) (naming-widely _ (function-goes x f t (function_of-is t f is) w))
+  declare-goes x t None w is known = weaker k gs _ (λ e holds allowed i h. holds i (record { units = units_alone (is_function t) (has_units k.structs t) (no_function t is) allowed; init = h })) (variable-goes x t w (units_alone (is_function t) (has_units w.structs t) (no_function t is) known))
 
   -- ---- declared names
 
@@ -323,8 +383,8 @@ module _ (stay : UnitsStay) (grow : TablesGrow) (k : Context) (gs : List Ty) (ah
       → Goes k gs widening w (declare_all false base d o w) (λ e. DeclaredRow k e.1 e.0 e.2)
   all-goes base d o w clean =
       after k gs {P = λ e. (i : Option TypedInit) → IfInit (IsTypedInit k e.0) i → DeclaredRow k e.1 e.0 i} (declare false base d o w) _
-      (after k gs (shaped_type base d o w) _ (widely _ (type-goes d.name (completed o (shaped w.structs base d.layers)) (results_fit w.structs base d.layers) w)) (λ t v q.
-      after k gs _ _ (declare-goes d.name t (function_of t) v refl) (λ e u r. ends k gs (λ below holds allowed. holds allowed)))) (λ e v q.
+      (after_found k gs (shaped_type base d o w) _ (widely _ (type-goes d.name (completed o (shaped w.structs base d.layers)) (results_fit w.structs base d.layers) w)) (λ t v is q.
+      after k gs _ _ (declare-goes d.name t (function_of t) v refl (allowed-found d.name (completed o (shaped w.structs base d.layers)) (results_fit w.structs base d.layers) w (t, v) is)) (λ e u r. ends k gs (λ below holds allowed. holds allowed)))) (λ e v q.
       after k gs _ _ (widely _ (optional-goes e.0 o v (q.clean clean))) (λ i u r. ends k gs (λ below hi holds. holds i hi)))
 
   declarator-goes : (base : Ty) (d : InitDeclarator) (w : World) → HaveNoParameter w.scopes

@@ -1,5 +1,5 @@
 -- The name that the typed form of a declarator declares is the one that its walk finds.
-use Rattle.std.proofs.Common.{◌≡◌, ◌∙◌, ℕ, List, Ok, refl, ap, sym, subst}
+use Rattle.std.proofs.Common.{◌≡◌, ◌∙◌, ℕ, List, Ok, ap, sym, subst}
 use Rattle.c_layers.specs.declared.layer.Layer.{Layer}
 use Rattle.c_tree.specs.declared.expression.Direct.{Direct, roll-Direct, map-Direct}
 use Rattle.c_tree.specs.declared.expression.Expr.{Expr}
@@ -14,9 +14,9 @@ use Rattle.c_tree.specs.declared.expression.TypeWord.{TypeWord}
 use Rattle.c_tree.specs.declared.expression.Direct.TheOpen.{Direct-F, Declarator-F}
 use Rattle.c_tree.specs.Fold.{Node, Plain}
 use Rattle.c_types.specs.declared.ty.Ty.{Ty}
-use Rattle.c_typed.specs.declared.expression.Declared.{Declared, roll-Declared, fold-roll-Declared}
+use Rattle.c_typed.specs.declared.expression.Declared.{fold-roll-Declared}
 use Rattle.c_typed.specs.declared.expression.TypedDeclarator.{TypedDeclarator, roll-TypedDeclarator, fold-TypedDeclarator, fold-roll-TypedDeclarator}
-use Rattle.c_typed.specs.declared.expression.TypedDirect.{TypedDirect, roll-TypedDirect, fold-TypedDirect, fold-roll-TypedDirect}
+use Rattle.c_typed.specs.declared.expression.TypedDirect.{TypedDirect, fold-TypedDirect, fold-roll-TypedDirect}
 use Rattle.c_typed.specs.declared.expression.TypedDirect.TheOpen.{TypedDirect-F}
 use Rattle.c_typed.specs.declared.expression.TypedDirect.TheVariants as typed_direct
 use Rattle.c_typed.specs.declared.expression.TypedSuffix.{TypedSuffix}

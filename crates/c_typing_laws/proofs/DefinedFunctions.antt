@@ -1,10 +1,10 @@
 -- What the definition of a function leaves of those that are defined.
-use Rattle.std.proofs.Common.{◌≡◌, ◌∙◌, ℕ, Bool, true, false, not, ◌&&◌, if◌then◌else◌, IsTrue, List, [], ◌∷◌, ◌++◌, Option, Some, None, is_none, Ok, Err, refl, ap, sym, subst}
+use Rattle.std.proofs.Common.{◌≡◌, ◌∙◌, Bool, true, false, not, ◌&&◌, if◌then◌else◌, IsTrue, List, [], ◌∷◌, ◌++◌, Option, Some, None, is_none, Ok, refl, ap, sym, subst}
 use Rattle.std.specs.Str.{bytes_eq}
 use Rattle.std.proofs.lemmas.Slice.Eq.{bytes_eq-Decides}
 use Rattle.c_layers.specs.declared.layer.Shape.{Shape}
 use Rattle.c_layers.specs.declared.layer.Shape.TheVariants as shape
-use Rattle.c_layers.specs.Shapes.{is_function_shape, whole_of}
+use Rattle.c_layers.specs.Shapes.{whole_of}
 use Rattle.c_types.specs.declared.ty.FnTy.{FnTy}
 use Rattle.c_types.specs.declared.ty.Ty.{Ty, fold-roll-Ty, out-Ty, out-roll-Ty}
 use Rattle.c_types.specs.declared.ty.Ty.TheOpen.{Ty-F}
@@ -22,24 +22,13 @@ use Rattle.c_scope.specs.BuiltIns.{built_in_named}
 use Rattle.c_scope.specs.Declarations.{agrees, is_free, is_free_for_function, is_type_name, may_be_declared, may_be_function, may_be_function_by}
 use Rattle.c_scope.specs.Definitions.{bind_function, declare_function, declare_function_by, is_bound_here, is_undefined_function, make_known, make_known_by, marked, may_be_defined}
 use Rattle.c_scope.specs.Scopes.{bind, innermost, known_function, meaning_here, meaning_of, with_function}
-use Rattle.c_scope.specs.Walk.{Outcome, Walk, ◌>>=◌, ◌>>◌, and_then, found, pure, rule}
+use Rattle.c_scope.specs.Walk.{Walk, ◌>>◌, and_then, found, pure, rule}
 use Rattle.c_typing.specs.Functions.{defined_type}
 use Rattle.c_typed_rows.specs.Contexts.{Name, Signature, defined_as}
 use Rattle.c_typed_rows.specs.Sources.{are_distinct}
 use Rattle.c_typing_laws.specs.Worlds.{defined_by, defined_in}
 use Rattle.c_typing_laws.proofs.DeclarationsMeetRows.{function_of-is}
-
--- ---- steps of a walk that breaks no rule
-
-pub split : {A B : Type 0} (o : Outcome (A × World)) (f : A → Walk B) (r : B × World) → and_then o f ≡ Ok r → (a : A × World) × ((o ≡ Ok a) × (f a.0 a.1 ≡ Ok r))
-split (Ok a) f r is = (a, (refl, is))
-split (Err e) f r is = cc
-
-abbrev pub answered : {A : Type 0} → A → World → Outcome (A × World)
-answered a w = Ok (a, w)
-
-pub ended : {A : Type 0} (a : A) (w : World) (r : A × World) → answered a w ≡ Ok r → (let s : A × World = (a, w) in s) ≡ r
-ended a w r is = cc
+use Rattle.c_typing_laws.proofs.FoundSteps.{ended, split}
 
 -- ---- tests
 
@@ -207,10 +196,12 @@ same-of f g = ap (λ t. same t (ty.Function g)) (sym (ty.rolls-Function f))
 inside : (o : Outer) (f g : FnTy) → o ≡ Ty-F.Function f → o ≡ Ty-F.Function g → f ≡ g
 inside o f g one other = cc
 
+-- functions that are one type are one
+pub one-function : (f g : FnTy) → ty.Function f ≡ ty.Function g → f ≡ g
+one-function f g one = inside (out-Ty (ty.Function f)) f g (out-function f) (ap out-Ty one ∙ out-function g)
+
 pub same-function : SameIsEquality → (f g : FnTy) → same_function f g ≡ true → f ≡ g
-same-function law f g is =
-    let one : ty.Function f ≡ ty.Function g = (law (ty.Function f) (ty.Function g)).0 (same-of f g ∙ is) in
-    inside (out-Ty (ty.Function f)) f g (out-function f) (ap out-Ty one ∙ out-function g)
+same-function law f g is = one-function f g ((law (ty.Function f) (ty.Function g)).0 (same-of f g ∙ is))
 
 -- ---- a function that may be defined
 

@@ -35,15 +35,14 @@ use Rattle.c_typing.specs.Functions.{typed_function}
 use Rattle.c_typing.specs.Sources.{Verdict, at_item, finished_behind, finished_by, function_item, items_behind, typed_item, typed_items, typed_source, typedef_item, with_first}
 use Rattle.c_typed_rows.specs.Contexts.{Context, Signature}
 use Rattle.c_typed_rows.specs.Expressions.{IsTypedDeclared, IsTypedSpec}
-use Rattle.c_typed_rows.specs.Sources.{Global, HasMain, are_numbered, declared_globals, definitions, file_context, globals, signature}
-use Rattle.c_typing_laws.specs.Theorems.{ItemMeetsRow, SourceMeetsRows}
+use Rattle.c_typed_rows.specs.Sources.{Global, HasMain, IsTyped, IsTypedItem, are_numbered, declared_globals, definitions, file_context, globals, signature}
 use Rattle.c_typing_laws.specs.Worlds.{AreFirst, Below, IsFile, defined_by}
 use Rattle.c_typing_laws.specs.inner.Goes.{Goes, ends, finds, ruled, weaker}
 use Rattle.c_typing_laws.specs.inner.TypedTrees.{IsTypedDeclarator}
 use Rattle.c_typing_laws.proofs.DeclarationsMeetRows as locals
 use Rattle.c_typing_laws.proofs.FileDeclarationsMeetRows as file
 use Rattle.c_typing_laws.proofs.FileDeclarationsMeetRows.{FileGoes, FileStays, decl-file, ends_file, first-behind, numbered-joined, of_defining, of_naming, of_quiet, types-regroup, types_of}
-use Rattle.c_typing_laws.proofs.DefinedFunctions.{ended, split}
+use Rattle.c_typing_laws.proofs.FoundSteps.{ended, split}
 use Rattle.c_typing_laws.proofs.FunctionsMeetRows as functions
 use Rattle.c_typing_laws.proofs.FunctionsMeetRows.{function-found}
 use Rattle.c_typing_laws.proofs.TypedParts as parts
@@ -163,20 +162,20 @@ module _ (stay : UnitsStay) (grow : TablesGrow) (law : SameIsEquality) where
   spec-file : (fs : List Signature) (gs : List Ty) (s : Spec) (w : World) → FileStays fs gs w (typed_spec s true w) (λ k base. IsTypedSpec k base.0)
   spec-file fs gs s w = of_defining fs gs w (typed_spec s true w) (λ k first. (spec-meets stay grow k gs first s).1 w)
 
-  typedef-file : (fs : List Signature) (gs : List Ty) (s : Spec) (ds : List Declarator) (w : World) → FileGoes fs gs w (typedef_item s ds w) item_globals ItemMeetsRow
+  typedef-file : (fs : List Signature) (gs : List Ty) (s : Spec) (ds : List Declarator) (w : World) → FileGoes fs gs w (typedef_item s ds w) item_globals IsTypedItem
   typedef-file fs gs s ds w = file.behind fs {P = λ k base. IsTypedSpec k base.0} gs w (typed_spec s true w) _ (spec-file fs gs s w) (λ base v.
       file.behind fs {P = λ k. AllByRecursion (IsTypedDeclared k)} gs v (each (map (typed_type base.1) ds) v) _ (each_stays fs gs (typed_type base.1) (type-file fs gs base.1) ds v) (λ xs u.
       ends_file fs gs (item.Typedef base.0 xs) u refl (λ k first below hxs hb. (hb, hxs))))
 
-  decl_item-file : (fs : List Signature) (gs : List Ty) (d : Decl) (w : World) → FileGoes fs gs w ((typed_decl true d >>= (λ x. pure (item.Decl x))) w) item_globals ItemMeetsRow
+  decl_item-file : (fs : List Signature) (gs : List Ty) (d : Decl) (w : World) → FileGoes fs gs w ((typed_decl true d >>= (λ x. pure (item.Decl x))) w) item_globals IsTypedItem
   decl_item-file fs gs d w = file.mapped fs gs w (typed_decl true d w) (λ x. item.Decl x) (λ x. refl) (λ k x h. h) (decl-file fs stay grow gs d w)
 
   -- what an item leaves, behind these global variables and definitions
   abbrev FirstLeft : List Ty → List Signature → World → TypedItem × World → Type 0
   FirstLeft gs fs w a = IsFile (gs ++ types_of (item_globals a.0)) (fs ++ item_signatures a.0) a.1 × are_numbered (length gs) (item_globals a.0)
-      × ((k : Context) → AreFirst k (gs ++ types_of (item_globals a.0)) → Below k a.1 → Below k w × ItemMeetsRow k a.0)
+      × ((k : Context) → AreFirst k (gs ++ types_of (item_globals a.0)) → Below k a.1 → Below k w × IsTypedItem k a.0)
 
-  none-defined : (gs : List Ty) (fs : List Signature) (w : World) (o : Outcome (TypedItem × World)) → FileGoes fs gs w o item_globals ItemMeetsRow
+  none-defined : (gs : List Ty) (fs : List Signature) (w : World) (o : Outcome (TypedItem × World)) → FileGoes fs gs w o item_globals IsTypedItem
       → (a : TypedItem × World) → o ≡ Ok a → item_signatures a.0 ≡ [] → IsFile gs fs w → FirstLeft gs fs w a
   none-defined gs fs w o goes a is none at =
       let h = goes.found a is at in
@@ -207,7 +206,7 @@ module _ (stay : UnitsStay) (grow : TablesGrow) (law : SameIsEquality) where
             let first = subst (AreFirst k) (append-nil gs) ahead in
             let m = g.rows k first below in
             let n = h.1 k first m.0 in
-            (n.0, (subst (IsTypedSpec k) (sym g.spec) n.1, m.1)),
+            (n.0, m.1 (subst (IsTypedSpec k) (sym g.spec) n.1)),
       )
 
   item-left : (gs : List Ty) (fs : List Signature) (i : Item) (w : World) (a : TypedItem × World) → typed_item i w ≡ Ok a → IsFile gs fs w → FirstLeft gs fs w a
@@ -220,7 +219,7 @@ module _ (stay : UnitsStay) (grow : TablesGrow) (law : SameIsEquality) where
 
   abbrev Left : List Ty → List Signature → World → List TypedItem × World → Type 0
   Left gs fs w r = IsFile (gs ++ types_of (globals r.0)) (fs ++ map signature (definitions r.0)) r.1 × are_numbered (length gs) (globals r.0)
-      × ((k : Context) → AreFirst k (gs ++ types_of (globals r.0)) → Below k r.1 → Below k w × AllByRecursion (ItemMeetsRow k) r.0)
+      × ((k : Context) → AreFirst k (gs ++ types_of (globals r.0)) → Below k r.1 → Below k w × AllByRecursion (IsTypedItem k) r.0)
 
   abbrev Found : List Ty → List Signature → World → Verdict (List TypedItem × World) → Type 0
   Found gs fs w v = (r : List TypedItem × World) → v ≡ Ok r → IsFile gs fs w → Left gs fs w r
@@ -286,7 +285,7 @@ module _ (stay : UnitsStay) (grow : TablesGrow) (law : SameIsEquality) where
   abbrev Ended : List TypedItem → World → Type 0
   Ended xs w = (undefined_use w.functions ≡ None) × (is_main (known_function w.functions (codes "main")) ≡ true)
 
-  source-made : (xs : List TypedItem) (w : World) → Left [] [] empty (xs, w) → Ended xs w → SourceMeetsRows (Made xs w)
+  source-made : (xs : List TypedItem) (w : World) → Left [] [] empty (xs, w) → Ended xs w → IsTyped (Made xs w)
   unfolding file_context
   source-made xs w left end =
       let k : Context = file_context (Made xs w) in
@@ -299,18 +298,18 @@ module _ (stay : UnitsStay) (grow : TablesGrow) (law : SameIsEquality) where
 
   main-found : (n : ℕ) (xs : List TypedItem) (w : World) (has_main : Bool) (r : Rule) → Left [] [] empty (xs, w) → undefined_use w.functions ≡ None
       → is_main (known_function w.functions (codes "main")) ≡ has_main → (t : Typed)
-      → (let v : Verdict Typed = if has_main then Ok (Made xs w) else Err (n, r) in v) ≡ Ok t → SourceMeetsRows t
-  main-found n xs w true r left used main t is = subst SourceMeetsRows (let same : Made xs w ≡ t = cc in same) (source-made xs w left (used, main))
+      → (let v : Verdict Typed = if has_main then Ok (Made xs w) else Err (n, r) in v) ≡ Ok t → IsTyped t
+  main-found n xs w true r left used main t is = subst IsTyped (let same : Made xs w ≡ t = cc in same) (source-made xs w left (used, main))
   main-found n xs w false r left used main t is = cc
 
-  finished-found : (n : ℕ) (xs : List TypedItem) (w : World) (o : Option ℕ) → Left [] [] empty (xs, w) → undefined_use w.functions ≡ o → (t : Typed) → finished_by n xs w o ≡ Ok t → SourceMeetsRows t
+  finished-found : (n : ℕ) (xs : List TypedItem) (w : World) (o : Option ℕ) → Left [] [] empty (xs, w) → undefined_use w.functions ≡ o → (t : Typed) → finished_by n xs w o ≡ Ok t → IsTyped t
   finished-found n xs w (Some first) left used t is = cc
   finished-found n xs w None left used t is = main-found n xs w _ _ left used refl t is
 
-  all-found : (n : ℕ) (v : Verdict (List TypedItem × World)) → Found [] [] empty v → (t : Typed) → finished_behind n v ≡ Ok t → SourceMeetsRows t
+  all-found : (n : ℕ) (v : Verdict (List TypedItem × World)) → Found [] [] empty v → (t : Typed) → finished_behind n v ≡ Ok t → IsTyped t
   all-found n (Ok r) found t is = finished-found n r.0 r.1 (undefined_use r.1.functions) (found r refl start) refl t is
   all-found n (Err e) found t is = cc
 
-  pub source-meets : (s : Source) (t : Typed) → typed_source s ≡ Ok t → SourceMeetsRows t
+  pub source-meets : (s : Source) (t : Typed) → typed_source s ≡ Ok t → IsTyped t
   unfolding typed_source
   source-meets s t is = all-found (length s.items) (typed_items 0 s.items empty) (items-found [] [] 0 s.items empty) t is

@@ -8,6 +8,7 @@ mod DeclarationsKeepTrees
 mod StatementsKeepTrees
 mod SourcesKeepTrees
 mod TypedParts
+mod FoundSteps
 mod WorldSteps
 mod RowsStay
 mod RulesMeetRows
@@ -22,5 +23,8 @@ mod RowsOfWalks
 mod FileDeclarationsMeetRows
 mod FunctionsMeetRows
 mod DeclaredNames
+mod FunctionTypes
+mod JumpsInside
+mod ScalarParameters
 mod DefinedFunctions
 mod ItemsMeetRows

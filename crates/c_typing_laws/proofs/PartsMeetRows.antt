@@ -59,7 +59,7 @@ use Rattle.c_typing_laws.proofs.MetNodes as met
 use Rattle.c_typing_laws.proofs.MetNodes.{Met, MetAbstractDeclarator, MetDeclarator, MetMemberDecl, MetParam, MetSuffix}
 use Rattle.c_typing_laws.proofs.RulesMeetRows.{has_constant}
 use Rattle.c_typing_laws.proofs.TypedParts as parts
-use Rattle.c_typing_laws.proofs.WorldSteps.{IsInner, IsQuiet, below-scopes, define-goes, defining, inner, quiet, quiet-is_defining, quiet-is_inner, sound-quiet, tag-goes}
+use Rattle.c_typing_laws.proofs.WorldSteps.{IsInner, IsQuiet, below-scopes, define-goes, defining, extends-same, inner, quiet, quiet-is_defining, quiet-is_inner, sound-quiet, tag-goes}
 
 -- ---- lists of what holds
 
@@ -111,7 +111,7 @@ module _ (stay : UnitsStay) (grow : TablesGrow) (k : Context) (gs : List Ty) (ah
     found = λ r is sound.
         let h = goes.found a refl (tt, sound) in
         let end : World = record a.1 { scopes = outer a.1.scopes } in
-        let q : IsQuiet w end = record { scopes = h.0.scopes; bodies = h.0.bodies; steady = record { locals = h.0.steady.locals; globals = h.0.steady.globals; defined = h.0.steady.defined } } in
+        let q : IsQuiet w end = record { scopes = h.0.scopes; bodies = h.0.bodies; steady = record { locals = h.0.steady.locals; globals = h.0.steady.globals; defined = h.0.steady.defined; grown = h.0.steady.grown } } in
         let same : (a.0, end) ≡ r = cc in
         subst (λ (s : A × World). IsQuiet w s.1 × Sound k gs s.1 × (Below k s.1 → Below k w × Q s.0)) same (
           q,
@@ -237,7 +237,7 @@ module _ (stay : UnitsStay) (grow : TablesGrow) (k : Context) (gs : List Ty) (ah
         let end : World = record w { scopes = bound_in w.scopes x (means.Variable entity.Parameter t) } in
         let same : (tt, end) ≡ r = cc in
         subst (λ (s : Unit {0} × World). IsInner w s.1 × Sound k gs s.1 × (Below k s.1 → Below k w × Unit {0})) same (
-          record { scopes = outer-bound w.scopes x (means.Variable entity.Parameter t); bodies = λ s. refl; steady = record { locals = refl; globals = refl; defined = λ y. refl } },
+          record { scopes = outer-bound w.scopes x (means.Variable entity.Parameter t); bodies = λ s. refl; steady = record { locals = refl; globals = refl; defined = λ y. refl; grown = extends-same w.structs } },
           bound-fits gs (local_types w) w.scopes x (means.Variable entity.Parameter t) sound tt,
           λ below. (below-scopes grow k gs w (bound_in w.scopes x (means.Variable entity.Parameter t)) below, tt),
         );

@@ -131,7 +131,7 @@ module _ (stay : UnitsStay) (grow : TablesGrow) (k : Context) (gs : List Ty) (ah
     found = λ r is sound.
         let h = goes.found a refl (tt, sound) in
         let end : World = record a.1 { scopes = outer a.1.scopes } in
-        let wide : IsWidening w end = record { scopes = ap outer h.0.scopes; clean = λ c. subst HaveNoParameter (sym h.0.scopes) c; globals = h.0.globals; defined = h.0.defined } in
+        let wide : IsWidening w end = record { scopes = ap outer h.0.scopes; clean = λ c. subst HaveNoParameter (sym h.0.scopes) c; globals = h.0.globals; defined = h.0.defined; grown = h.0.grown; locals = h.0.locals; units = h.0.units } in
         let same : (a.0, end) ≡ r = cc in
         subst (λ (s : A × World). IsWidening w s.1 × Sound k gs s.1 × (Below k s.1 → Below k w × Q s.0)) same (
           wide,

@@ -1,9 +1,8 @@
 -- What the changes of a world leave of it: a context that has all that is known behind one has what was known before.
-use Rattle.std.proofs.Common.{◌≡◌, ◌≤◌, ◌∙◌, ℕ, zero, suc, Bool, true, false, ◌&&◌, if◌then◌else◌, List, [], ◌∷◌, ◌++◌, length, map, Option, Some, None, slice_get, is_none, nat_lt, Ok, refl, ap, sym, subst, arith}
+use Rattle.std.proofs.Common.{◌≡◌, ◌≤◌, ◌∙◌, ℕ, zero, suc, Bool, true, false, ◌&&◌, if◌then◌else◌, List, [], ◌∷◌, ◌++◌, length, map, Option, Some, None, slice_get, is_none, nat_lt, Ok, refl, ap, sym, subst, arith, le_refl}
 use Rattle.std.specs.Option.{option_and_then}
 use Rattle.std.specs.Str.{bytes_eq}
 use Rattle.std.proofs.lemmas.Option.{slice_get_within}
-use Rattle.c_types.specs.declared.ty.FnTy.{FnTy}
 use Rattle.c_types.specs.declared.structs.Member.{Member}
 use Rattle.c_types.specs.declared.structs.StructDef.{StructDef}
 use Rattle.c_types.specs.declared.ty.Ty.{Ty}
@@ -27,20 +26,32 @@ use Rattle.c_typing_laws.specs.inner.Goes.{Goes, Relation, Sound, ends, ruled}
 
 -- ---- relations
 
--- the types of locals, the number of globals and the functions that are defined stay
+-- each body is there, in a table as long at least
+pub extends-same : (defs : List StructDef) → Extends defs defs
+extends-same defs = record { longer = le_refl (length defs); bodies = λ s ms is. is }
+
+pub extends-joined : (a b c : List StructDef) → Extends a b → Extends b c → Extends a c
+extends-joined a b c first second = record {
+  longer = let l : length a ≤ length b = first.longer in let m : length b ≤ length c = second.longer in omega arith;
+  bodies = λ s ms is. second.bodies s ms (first.bodies s ms is);
+}
+
+-- the types of locals, the number of globals and the functions that are defined stay, and so do bodies of structs
 pub record IsSteady (w v : World) : Type 0 where
   pub locals : local_types v ≡ local_types w
   pub globals : v.globals ≡ w.globals
   pub defined : (x : Name) → defined_in v.functions x ≡ defined_in w.functions x
+  pub grown : Extends w.structs v.structs
 
 pub steady-same : (w : World) → IsSteady w w
-steady-same w = record { locals = refl; globals = refl; defined = λ x. refl }
+steady-same w = record { locals = refl; globals = refl; defined = λ x. refl; grown = extends-same w.structs }
 
 pub steady-joined : (w v u : World) → IsSteady w v → IsSteady v u → IsSteady w u
 steady-joined w v u first second = record {
   locals = second.locals ∙ first.locals;
   globals = second.globals ∙ first.globals;
   defined = λ x. second.defined x ∙ first.defined x;
+  grown = extends-joined w.structs v.structs u.structs first.grown second.grown;
 }
 
 -- scopes and bodies of structs stay too
@@ -215,12 +226,6 @@ module _ (grow : TablesGrow) (k : Context) (gs : List Ty) where
   pub sound-quiet : (w v : World) → IsQuiet w v → Sound k gs w → Sound k gs v
   sound-quiet w v q sound = sound-kept w v q.scopes q.steady sound
 
-  extends-joined : (a b c : List StructDef) → Extends a b → Extends b c → Extends a c
-  extends-joined a b c first second = record {
-    longer = let l : length a ≤ length b = first.longer in let m : length b ≤ length c = second.longer in omega arith;
-    bodies = λ s ms is. second.bodies s ms (first.bodies s ms is);
-  }
-
   -- a change that leaves scopes and types of locals
   changed_found : {A : Type 0} (Q : A → Type 0) (a : A) (w v : World) → IsQuiet w v → (Below k v → Below k w × Q a) → (r : A × World)
       → (let o : Outcome (A × World) = Ok (a, v) in o) ≡ Ok r → Sound k gs w
@@ -302,19 +307,19 @@ module _ (grow : TablesGrow) (k : Context) (gs : List Ty) where
   }
 
   pub quiet-addressed : (w : World) (n : ℕ) → IsQuiet w (record w { locals = addressed_at n w.locals })
-  quiet-addressed w n = record { scopes = refl; bodies = λ s. refl; steady = record { locals = addressed-types n w.locals; globals = refl; defined = λ x. refl } }
+  quiet-addressed w n = record { scopes = refl; bodies = λ s. refl; steady = record { locals = addressed-types n w.locals; globals = refl; defined = λ x. refl; grown = extends-same w.structs } }
 
   pub quiet-text : (w : World) (bytes : List ℕ) → IsQuiet w (record w { strings = w.strings ++ bytes ∷ [] })
-  quiet-text w bytes = record { scopes = refl; bodies = λ s. refl; steady = record { locals = refl; globals = refl; defined = λ x. refl } }
+  quiet-text w bytes = record { scopes = refl; bodies = λ s. refl; steady = record { locals = refl; globals = refl; defined = λ x. refl; grown = extends-same w.structs } }
 
   pub quiet-used : (w : World) (x : Name) → IsQuiet w (record w { functions = with_function (marked true false) w.functions x })
-  quiet-used w x = record { scopes = refl; bodies = λ s. refl; steady = record { locals = refl; globals = refl; defined = λ y. used-defined w.functions x y } }
+  quiet-used w x = record { scopes = refl; bodies = λ s. refl; steady = record { locals = refl; globals = refl; defined = λ y. used-defined w.functions x y; grown = extends-same w.structs } }
 
   -- ---- tags and bodies of structs
 
   new_tag-goes : (x : Name) (w : World) → Goes k gs quiet w (new_tag x w) (λ n. Unit {0})
   new_tag-goes x w = ruled k gs broken.Tag (nat_lt (length w.structs) most_tags) _ (λ few.
-      changed {a = length w.structs} w (record w { structs = with_tag w.structs x }) (record { scopes = refl; bodies = tagged-bodies w.structs x; steady = record { locals = refl; globals = refl; defined = λ y. refl } }) (λ b. (below-structs w (with_tag w.structs x) (grow.declared w.structs x) b, tt)))
+      changed {a = length w.structs} w (record w { structs = with_tag w.structs x }) (record { scopes = refl; bodies = tagged-bodies w.structs x; steady = record { locals = refl; globals = refl; defined = λ y. refl; grown = grow.declared w.structs x } }) (λ b. (below-structs w (with_tag w.structs x) (grow.declared w.structs x) b, tt)))
 
   tag_by-goes : (x : Name) (o : Option ℕ) (w : World) → Goes k gs quiet w (tag_by x o w) (λ n. Unit {0})
   tag_by-goes x None w = new_tag-goes x w
@@ -348,5 +353,5 @@ module _ (grow : TablesGrow) (k : Context) (gs : List Ty) where
   pub define-goes : (n : ℕ) (ms : List Member) (w : World) → Goes k gs defining w (define n ms w) (λ u. Unit {0})
   unfolding define
   define-goes n ms w = ruled k gs broken.Tag (is_undefined w.structs n && are_members w.structs ms) _ (λ holds.
-      redefined w (record w { structs = with_body w.structs n ms }) (record { scopes = refl; steady = record { locals = refl; globals = refl; defined = λ y. refl } })
+      redefined w (record w { structs = with_body w.structs n ms }) (record { scopes = refl; steady = record { locals = refl; globals = refl; defined = λ y. refl; grown = extends-defined w.structs n ms (both (is_undefined w.structs n) (are_members w.structs ms) holds).0 } })
       (λ b. (below-structs w (with_body w.structs n ms) (extends-defined w.structs n ms (both (is_undefined w.structs n) (are_members w.structs ms) holds).0) b, tt)))

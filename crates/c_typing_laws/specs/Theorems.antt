@@ -1,16 +1,12 @@
 -- What holds of the typed forms of sources, and of what each walk finds.
-use Rattle.std.specs.Prelude.{◌≡◌, Bool, true, false, IsTrue, List, [], ◌∷◌, ◌++◌, length, map, Some, Ok}
-use Rattle.std.specs.List.{AllByRecursion}
+use Rattle.std.specs.Prelude.{◌≡◌, Bool, true, false, List, [], ◌∷◌, ◌++◌, length, map, Some, Ok}
 use Rattle.c_tree.specs.declared.expression.Declarator.{Declarator}
 use Rattle.c_tree.specs.declared.expression.Expr.{Expr}
 use Rattle.c_tree.specs.declared.statement.Block.{Block}
 use Rattle.c_tree.specs.declared.statement.Decl.{Decl}
 use Rattle.c_tree.specs.declared.statement.Init.{Init}
 use Rattle.c_tree.specs.declared.statement.Unit.{Unit as Source}
-use Rattle.c_types.specs.declared.ty.FnTy.{FnTy, out-FnTy}
 use Rattle.c_types.specs.declared.ty.Ty.{Ty}
-use Rattle.c_types.specs.declared.ty.Ty.TheVariants as ty
-use Rattle.c_typed.specs.declared.expression.Declared.{out-Declared}
 use Rattle.c_typed.specs.declared.expression.TypedExpr.{TypedExpr}
 use Rattle.c_typed.specs.declared.expression.TypedSpec.{TypedSpec}
 use Rattle.c_typed.specs.declared.statement.TypedBlock.{TypedBlock}
@@ -18,8 +14,6 @@ use Rattle.c_typed.specs.declared.statement.TypedDecl.{TypedDecl}
 use Rattle.c_typed.specs.declared.statement.TypedInit.{TypedInit}
 use Rattle.c_typed.specs.declared.unit.Typed.{Typed}
 use Rattle.c_typed.specs.declared.unit.TypedFn.{TypedFn}
-use Rattle.c_typed.specs.declared.unit.TypedItem.{TypedItem}
-use Rattle.c_typed.specs.declared.unit.TypedItem.TheVariants as item
 use Rattle.c_typed.specs.Erased.{erased}
 use Rattle.c_scope.specs.declared.world.World.{World}
 use Rattle.c_rules.specs.declared.place.Place.TheVariants.{Value}
@@ -30,9 +24,9 @@ use Rattle.c_typing.specs.Initialisers.{typed_init}
 use Rattle.c_typing.specs.Statements.{typed_block}
 use Rattle.c_typing.specs.Theorems.{HasForm}
 use Rattle.c_typed_rows.specs.Contexts.{Context, Signature}
-use Rattle.c_typed_rows.specs.Expressions.{IsTypedDeclared, IsTypedSpec, IsTypedValue}
+use Rattle.c_typed_rows.specs.Expressions.{IsTypedSpec, IsTypedValue}
 use Rattle.c_typed_rows.specs.Initialisers.{IsTypedInit}
-use Rattle.c_typed_rows.specs.Sources.{HasMain, are_distinct, are_numbered, declared_globals, file_context, globals, signature}
+use Rattle.c_typed_rows.specs.Sources.{IsTyped, IsTypedFn, are_numbered, declared_globals, signature}
 use Rattle.c_typed_rows.specs.Statements.{IsTypedBlock, IsTypedDecl}
 use Rattle.c_typing_laws.specs.Worlds.{AreFirst, Below, HaveNoParameter, IsFile, ScopesFit, local_types}
 
@@ -62,34 +56,14 @@ pub record DeclaresGlobals (before : List Ty) (fs : List Signature) (x : TypedDe
       → Below k new
       → IsTypedDecl k x
 
--- a definition of a function, whose block meets its rows in a context of the function's own variables and result
-pub record DefinesFunction (k : Context) (f : TypedFn) : Type 0 where
-  pub type : FnTy
-  pub ty : (out-Declared f.declared).ty ≡ ty.Function type
-  pub bounds : IsTypedDeclared k f.declared
-  pub block : IsTypedBlock (record k { locals = f.locals; result = (out-FnTy type).result }) f.block
-
 -- what a definition leaves, behind global variables of these types and these definitions of functions
 pub record LeavesFile (before : List Ty) (fs : List Signature) (f : TypedFn) (new : World) : Type 0 where
   pub file : IsFile before (fs ++ signature f ∷ []) new
-  pub rows : (k : Context) → AreFirst k before → Below k new → DefinesFunction k f
+  pub rows : (k : Context) → AreFirst k before → Below k new → IsTypedSpec k f.spec → IsTypedFn k f
 
--- an item whose levels meet their rows
-abbrev pub ItemMeetsRow : Context → TypedItem → Type 0
-ItemMeetsRow k (item.Decl d) = IsTypedDecl k d
-ItemMeetsRow k (item.Typedef s ds) = IsTypedSpec k s × AllByRecursion (IsTypedDeclared k) ds
-ItemMeetsRow k (item.Function f) = IsTypedSpec k f.spec × DefinesFunction k f
-
--- a whole source whose levels meet their rows
-pub record SourceMeetsRows (t : Typed) : Type 0 where
-  pub items : AllByRecursion (ItemMeetsRow (file_context t)) t.items
-  pub distinct : IsTrue (are_distinct (file_context t).functions)
-  pub numbered : are_numbered 0 (globals t.items)
-  pub main : HasMain (file_context t)
-
--- the typed form of a source is such a one
-abbrev pub TypedSourcesMeetRows : Type 0
-TypedSourcesMeetRows = (s : Source) (t : Typed) → HasForm s t → SourceMeetsRows t
+-- the typed form of a source meets all rows, among its own functions, global variables, structs and strings
+abbrev pub TypedSourcesAreTyped : Type 0
+TypedSourcesAreTyped = (s : Source) (t : Typed) → HasForm s t → IsTyped t
 
 -- what the walk of a tree finds meets the rows of each of its levels, in each context that has what is known
 pub record WalksMeetRows : Type 0 where

@@ -3,4 +3,4 @@
 
 mod theorems;
 
-pub use theorems::{typed_sources_keep_their_trees, typed_sources_meet_rows, walks_meet_rows};
+pub use theorems::{typed_sources_are_typed, typed_sources_keep_their_trees, walks_meet_rows};

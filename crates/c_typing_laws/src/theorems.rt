@@ -1,6 +1,6 @@
 //! What holds of the typed form of every source, and of what each walk finds.
 
-ghost use Rattle.c_typing_laws.specs.Theorems.{TypedSourcesKeepTheirTrees, TypedSourcesMeetRows, WalksMeetRows};
+ghost use Rattle.c_typing_laws.specs.Theorems.{TypedSourcesAreTyped, TypedSourcesKeepTheirTrees, WalksMeetRows};
 
 use c_types::{same_is_equality, tables_grow, units_stay};
 
@@ -19,9 +19,10 @@ pub fn walks_meet_rows()
     same_is_equality();
 }
 
-/// Each level of the typed form of a source meets its row, among the functions, global variables, structs and strings of that form.
-pub fn typed_sources_meet_rows()
-    ensures { TypedSourcesMeetRows }
+/// Each level of the typed form of a source meets its row, among the functions, global variables, structs and strings of
+/// that form.
+pub fn typed_sources_are_typed()
+    ensures { TypedSourcesAreTyped }
 {
     units_stay();
     tables_grow();

@@ -50,6 +50,17 @@ module _ (k : Context) (gs : List Ty) where
     }
     after (Err e) f first rest = never
 
+    -- the same, with what the first step answers
+    pub after_found : {A B : Type 0} {P : A → Type 0} {Q : B → Type 0} {w : World} (o : Outcome (A × World)) (f : A → Walk B)
+        → Goes R w o P → ((a : A) (v : World) → o ≡ Ok (a, v) → R.holds w v → Goes R v (f a v) (λ b. P a → Q b)) → Goes R w (and_then o f) Q
+    after_found {A} {B} {P} {Q} {w} (Ok a) f first rest = record {
+      found = λ r is sound.
+          let h = first.found a refl sound in
+          let g = (rest a.0 a.1 refl h.0).found r is h.1 in
+          (R.joined w a.1 r.1 h.0 g.0, g.1, λ below. let m = g.2 below in let n = h.2 m.0 in (n.0, m.1 n.1));
+    }
+    after_found (Err e) f first rest = never
+
     -- less is asked
     pub weaker : {A : Type 0} {P Q : A → Type 0} {w : World} (o : Outcome (A × World)) → ((a : A) → P a → Q a) → Goes R w o P → Goes R w o Q
     weaker o less goes = record { found = λ r is sound. let h = goes.found r is sound in (h.0, h.1, λ below. let n = h.2 below in (n.0, less r.0 n.1)) }
