@@ -44,8 +44,10 @@ impl ClassTable {
 
     /// Whether a type holds code pointers.
     fn holds(&self, ty: &Ty) -> bool
-        ensures yes { IsTrue result → (defs : List StructDef) → AreClasses defs self.now → Holds defs ty.now }
-        ensures no { result ≡ false → (defs : List StructDef) → AreClasses defs self.now → Holds defs ty.now → ⊥ }
+        ensures yes { IsTrue result → (defs : List StructDef) → AreClasses defs self.now
+            → Holds defs ty.now }
+        ensures no { result ≡ false → (defs : List StructDef) → AreClasses defs self.now
+            → Holds defs ty.now → ⊥ }
     {
         match holding_of(self.of_structs.as_slice(), ty) {
             Holding::Always => true,

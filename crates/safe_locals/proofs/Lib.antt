@@ -2,3 +2,4 @@ mod Serving
 mod Addresses
 mod MarksTell
 mod Judging
+mod WholeFunctions

@@ -30,13 +30,14 @@ module _ {code : List Outline} where
   by_role r has (indexed k v p i n s j q c o is serves a number const sum) = subst (λ x. AddressBy code k x v o) (one_role is has) (s, j, q, c, serves, a, number, const, sum)
 
   pub one_address : {k v w : ℕ} {o q : ℤ} → IsAddress code k v o → IsAddress code k w q → (v ≡ w) × (o ≡ q)
-  one_address {_} {_} {w} {_} {q} (base k v o is zero) b =
+  unfolding const_of by_role
+  one_address {w} {q} (base k v o is zero) b =
       let x : AddressBy code k (role.Local v) w q = by_role (role.Local v) is b in (x.0, zero ∙ sym x.1)
-  one_address {_} {_} {w} {_} {q} (shifted k v p n s t o is serves a sum) b =
+  one_address {w} {q} (shifted k v p n s t o is serves a sum) b =
       let x : AddressBy code k (role.Shifted p n) w q = by_role (role.Shifted p n) is b in
       let same = one_address a (subst (λ y. IsAddress code y w x.1) (one_server x.2 serves) x.3) in
       (same.0, sum ∙ ap (λ y. y +ℤ pos n) same.1 ∙ sym x.4)
-  one_address {_} {_} {w} {_} {q} (indexed k v p i n s j t c o is serves a number const sum) b =
+  one_address {w} {q} (indexed k v p i n s j t c o is serves a number const sum) b =
       let x : AddressBy code k (role.Indexed p i n) w q = by_role (role.Indexed p i n) is b in
       let same = one_address a (subst (λ y. IsAddress code y w x.2) (one_server x.4 serves) x.5) in
       let consts : c ≡ x.3 = ap const_of (one_role const (subst (λ y. HasRole code 0 y (role.Const x.3)) (one_server x.6 number) x.7)) in

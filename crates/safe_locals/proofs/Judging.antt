@@ -1,7 +1,7 @@
 -- What is known against locals, operand by operand.
 use Rattle.std.proofs.Common.{◌≡◌, ◌∙◌, ◌⊎◌, inl, inr, ℕ, zero, suc, ◌+◌, ◌<◌, ◌≤◌, Bool, true, false, ◌&&◌, IsTrue, List, length, map, replicate, Option, Some, None, slice_get, slice_set, ℤ, pos, ◌≤ℤ◌, ◌<ℤ◌, int_le, int_lt, refl, sym, ap, subst, arith}
 use Rattle.std.specs.List.{slice_index_or}
-use Rattle.std.specs.Int.Signed.{lt_z_no, lt_z_yes}
+use Rattle.std.specs.Int.Signed.{le_z_yes, lt_z_yes}
 use Rattle.std.proofs.lemmas.Bool.{both_ways, cases_eq}
 use Rattle.std.proofs.lemmas.Float.{T_from_true}
 use Rattle.std.proofs.lemmas.Int.{ints}
@@ -28,13 +28,16 @@ both_true a b p q = ap (λ x. x && b) p ∙ q
 
 inside_is : (o : ℤ) (units : ℕ) → is_inside o units ≡ true → IsInside o units
 inside_is o units is =
-    let p = both (int_le (pos 0) o) (int_lt o (pos units)) is in (lt_z_no (T_from_true (int_le (pos 0) o) p.0), lt_z_yes (T_from_true (int_lt o (pos units)) p.1))
+    let p = both (int_le (pos 0) o) (int_lt o (pos units)) is in (le_z_yes (T_from_true (int_le (pos 0) o) p.0), lt_z_yes (T_from_true (int_lt o (pos units)) p.1))
 
 inside_true : (o : ℤ) (units : ℕ) → IsInside o units → is_inside o units ≡ true
 inside_true o units is = both_true (int_le (pos 0) o) (int_lt o (pos units)) (grind (arith, ints, is.0)) (grind (arith, ints, is.1))
 
 local_same : (v w : ℕ) (q o : ℤ) → mark.Address v q ≡ mark.Address w o → v ≡ w
 local_same v w q o f = cc
+
+offset_same : (v w : ℕ) (q o : ℤ) → mark.Address v q ≡ mark.Address w o → q ≡ o
+offset_same v w q o f = cc
 
 module _ {code : List Outline} (u : ℕ) (marks : List Mark) (tell : (r : ℕ) → Tells code u r (mark_at marks r)) where
   -- ---- harmless operands
@@ -113,6 +116,25 @@ module _ {code : List Outline} (u : ℕ) (marks : List Mark) (tell : (r : ℕ) �
           sound = λ v n at yes. until_more (judged.sound v n at yes) (λ o found. harmless_is i.role k o n (role_here there) (fine v n o at (use_mark found)));
           complete = λ v n at all. judged.complete v n at (until_less all);
         }
+
+        -- nor where it is harmless
+        pub judged_harmless : (w : ℕ) (o : ℤ) (n : ℕ) → slice_get units w ≡ Some n → mark_at marks r ≡ mark.Address w o → is_harmless marks i.role k o n ≡ true → AreJudged code units u (k + 1) safe
+        judged_harmless w o n at e fine = judged_same (λ v m q there_v is_v.
+            let here : mark.Address w o ≡ mark.Address v q = sym e ∙ is_v in
+            let same : w ≡ v = local_same w v o q here in
+            let offset : o ≡ q = offset_same w v o q here in
+            let size : n ≡ m = same_Some n m (sym at ∙ ap (λ x. slice_get units x) same ∙ there_v) in
+            subst (λ x. is_harmless marks i.role k q x ≡ true) size (subst (λ x. is_harmless marks i.role k x n ≡ true) offset fine))
+
+        -- nor where it is of no local
+        pub judged_past : (w : ℕ) (o : ℤ) → length units ≤ w → mark_at marks r ≡ mark.Address w o → AreJudged code units u (k + 1) safe
+        judged_past w o past e = judged_same (λ v m q there_v is_v.
+            let same : w ≡ v = local_same w v o q (sym e ∙ is_v) in
+            let inside : v < length units = slice_get_within units v m there_v in
+            absurd (omega (arith, past, same, inside)))
+
+        pub judged_other : ((v : ℕ) (o : ℤ) → mark_at marks r ≡ mark.Address v o → ⊥) → AreJudged code units u (k + 1) safe
+        judged_other other = judged_same (λ v m q there_v is_v. absurd (other v q is_v))
 
         -- this is against a local
         pub judged_against : (w : ℕ) (o : ℤ) (n : ℕ) → slice_get units w ≡ Some n → mark_at marks r ≡ mark.Address w o → is_harmless marks i.role k o n ≡ false → AreJudged code units u (k + 1) (slice_set safe w false)
