@@ -18,4 +18,8 @@ pub record AreSafe (f : Function) (safe : List Bool) : Type 0 where
 -- that, for each function
 pub record AreAllSafe (p : Program) (table : List (List Bool)) : Type 0 where
   pub each : length table ≡ length p.functions
-  pub exact : (n : ℕ) (f : Function) (safe : List Bool) → slice_get p.functions n ≡ Some f → slice_get table n ≡ Some safe → AreSafe f safe
+  pub exact :
+      (n : ℕ) (f : Function) (safe : List Bool)
+      → slice_get p.functions n ≡ Some f
+      → slice_get table n ≡ Some safe
+      → AreSafe f safe

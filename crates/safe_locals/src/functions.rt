@@ -2,8 +2,10 @@
 
 ghost use Rattle.std.specs.Prelude.{◌≡◌, ◌<◌, IfOk, IfSome, length, map, slice_get};
 ghost use Rattle.core_ir.specs.Valid.{IsValid, IsValidFunction};
+ghost use Rattle.safe_locals.specs.AtLocals.{AreAtSafe};
 ghost use Rattle.safe_locals.specs.Safe.{AreAllSafe, AreSafe};
 
+use crate::at_each::at_locals;
 use crate::body::safe_in;
 use core_ir::{Function, Local, Program};
 use sqlite_items::Items;
@@ -42,7 +44,8 @@ fn safe_of(alloc: Global, program: &Program, function: &Function) -> Result<Item
 pub fn safe(alloc: Global, program: &Program, f: u32) -> Result<Items<bool>, AllocError>
     requires valid { IsValid program.now }
     requires within { f < length program.now.functions }
-    ensures { IfOk result (λ safe. IfSome (slice_get program.now.functions f) (λ function. AreSafe function safe)) }
+    ensures { IfOk result (λ safe. IfSome (slice_get program.now.functions f)
+        (λ function. AreSafe function safe)) }
 {
     let safe = safe_of(alloc, program, &program.functions.as_slice()[f as usize])?;
     Ok(safe)
@@ -62,4 +65,43 @@ pub fn safe_all(alloc: Global, program: &Program) -> Result<SafeTable, AllocErro
         table.push(safe_of(alloc, program, function)?)?;
     }
     Ok(table)
+}
+
+/// Which instructions of a function are at its safe locals, of which `safe` tells.
+fn at_safe_of(
+    alloc: Global,
+    program: &Program,
+    function: &Function,
+    safe: &[bool],
+) -> Result<Items<bool>, AllocError>
+    requires valid { IsValidFunction program.now function.now }
+    requires safe { AreSafe function.now safe.now }
+    ensures { IfOk result (λ at. AreAtSafe function.now at) }
+{
+    let body = function.body.as_slice();
+    let at = at_locals(alloc, body, function.registers, safe)?;
+    Ok(at)
+}
+
+/// Which instructions of a function of a valid program are at its safe locals, of which `safe` tells:
+/// an address of one serves their first operand.
+///
+/// # Errors
+///
+/// `AllocError`, where no memory is left.
+pub fn at_safe(
+    alloc: Global,
+    program: &Program,
+    f: u32,
+    safe: &[bool],
+) -> Result<Items<bool>, AllocError>
+    requires valid { IsValid program.now }
+    requires within { f < length program.now.functions }
+    requires safe { IfSome (slice_get program.now.functions f)
+        (λ function. AreSafe function safe.now) }
+    ensures { IfOk result (λ at. IfSome (slice_get program.now.functions f)
+        (λ function. AreAtSafe function at)) }
+{
+    let at = at_safe_of(alloc, program, &program.functions.as_slice()[f as usize], safe)?;
+    Ok(at)
 }

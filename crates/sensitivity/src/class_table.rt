@@ -56,8 +56,8 @@ impl ClassTable {
         }
     }
 
-    /// The class of a pointer.
-    fn class_of_pointer(&self, target: &Ty) -> Class
+    /// The class of a pointer to a type. It takes time that grows with the parts of the type.
+    pub fn class_of_pointer(&self, target: &Ty) -> Class
         ensures { (defs : List StructDef) → AreClasses defs self.now
             → HasClass defs (Ty.Pointer target.now) result }
     {

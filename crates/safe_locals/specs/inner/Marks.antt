@@ -1,10 +1,11 @@
 -- What is known at a place of a body: what serves each register, and which locals were used in harmless ways alone.
-use Rattle.std.specs.Prelude.{◌≡◌, ◌⊎◌, ◌<◌, ◌≤◌, ◌*◌, ◌^◌, ℕ, zero, suc, Bool, true, false, ◌&&◌, IsTrue, List, Some, length, unsigned_abs, slice_get, slice_index_or, ℤ, pos, ◌+ℤ◌, ◌*ℤ◌, ◌≤ℤ◌, ◌<ℤ◌, int_le, int_lt}
+use Rattle.std.specs.Prelude.{◌≡◌, ◌⊎◌, ◌<◌, ◌≤◌, ◌*◌, ◌^◌, ℕ, zero, suc, Bool, true, false, ◌&&◌, IsTrue, List, Some, length, unsigned_abs, slice_get, slice_index_or, ◌↔◌, ℤ, pos, ◌+ℤ◌, ◌*ℤ◌, ◌≤ℤ◌, ◌<ℤ◌, int_le, int_lt}
 use Rattle.core_ir.specs.Outline.{Outline}
 use Rattle.core_ir.specs.declared.role.Role.{Role}
 use Rattle.core_ir.specs.declared.role.Role.TheVariants as role
 use Rattle.core_ir.specs.Flow.{HasRole, Serves, Stands}
 use Rattle.core_ir.specs.SafeLocal.{IsAccessed, IsAddress, IsInside, IsMoved}
+use Rattle.safe_locals.specs.AtLocals.{HasYes, IsAt}
 use Rattle.safe_locals.specs.declared.mark.Mark.{Mark}
 use Rattle.safe_locals.specs.declared.mark.Mark.TheVariants as mark
 
@@ -113,3 +114,15 @@ pub record AreJudged (code : List Outline) (units : List ℕ) (u operands : ℕ)
       → slice_get units v ≡ Some n
       → IsSafeUntil code v n u operands
       → IsTrue (slice_index_or safe v false)
+
+-- ---- instructions at locals
+
+-- the mark is an address of a local that has a yes
+abbrev pub is_of : List Bool → Mark → Bool
+is_of locals (mark.Address v o) = slice_index_or locals v false
+is_of locals _ = false
+
+-- one answer for each of the first so many instructions
+pub record AreAtUntil (code : List Outline) (locals : List Bool) (u : ℕ) (at : List Bool) : Type 0 where
+  pub each : length at ≡ u
+  pub exact : (k : ℕ) → k < u → HasYes at k ↔ IsAt code (HasYes locals) k

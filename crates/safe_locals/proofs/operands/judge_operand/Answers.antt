@@ -1,4 +1,5 @@
-use Rattle.std.proofs.Common.{rules, SFits, w128, ◌≡◌, ◌∙◌, ◌+◌, ℕ, false, true, map, Some, slice_get, get_or, sym, ap, subst, arith}
+use Rattle.std.proofs.Common.{rules, SFits, ◌≡◌, ◌∙◌, ◌+◌, ℕ, false, true, map, Some, slice_get, get_or, sym, ap, subst, arith}
+use Rattle.std.specs.Int.{w128}
 use Rattle.std.proofs.lemmas.Int.{to_z-of_z}
 use Rattle.std.proofs.lemmas.Option.{slice_get-get_or}
 use Rattle.safe_locals.specs.declared.mark.Mark.TheVariants as mark
