@@ -3,7 +3,7 @@ use Rattle.std.proofs.Common.{◌≡◌, ◌∙◌, ℕ, List, ℤ, pos, ◌+ℤ
 use Rattle.core_ir.specs.declared.role.Role.{Role}
 use Rattle.core_ir.specs.declared.role.Role.TheVariants as role
 use Rattle.core_ir.specs.Outline.{Outline}
-use Rattle.core_ir.specs.Flow.{HasRole, Serves, Stands}
+use Rattle.core_ir.specs.Flow.{HasRole, Serves}
 use Rattle.core_ir.specs.SafeLocal.{IsAddress, base, indexed, shifted}
 use Rattle.safe_locals.proofs.Serving.{one_role, one_server}
 

@@ -1,5 +1,5 @@
 -- Whether an instruction is at a local, by the mark of its first operand.
-use Rattle.std.proofs.Common.{◌≡◌, ◌∙◌, ◌⊎◌, inl, inr, ◌↔◌, ℕ, zero, suc, ◌+◌, ◌<◌, ◌≤◌, Bool, true, false, IsTrue, List, [], ◌∷◌, ◌++◌, length, map, Some, slice_get, get_or, refl, sym, ap, subst, arith}
+use Rattle.std.proofs.Common.{◌≡◌, ◌∙◌, inl, inr, ◌↔◌, ℕ, zero, suc, ◌+◌, ◌<◌, ◌≤◌, Bool, true, false, IsTrue, List, [], ◌∷◌, ◌++◌, length, map, Some, slice_get, refl, sym, ap, subst, arith}
 use Rattle.std.proofs.lemmas.Bool.{cases_eq}
 use Rattle.std.proofs.lemmas.List.{get_or_at, length-append, length-map}
 use Rattle.std.proofs.lemmas.Option.{same_Some, slice_get_within}
@@ -8,7 +8,6 @@ use Rattle.core_ir.specs.declared.program.Function.{Function}
 use Rattle.core_ir.specs.Instructions.{outline_of}
 use Rattle.core_ir.specs.Outline.{Outline}
 use Rattle.core_ir.specs.Flow.{Serves, Stands}
-use Rattle.core_ir.specs.SafeLocal.{IsSafeLocal}
 use Rattle.safe_locals.specs.declared.mark.Mark.{Mark}
 use Rattle.safe_locals.specs.declared.mark.Mark.TheVariants as mark
 use Rattle.safe_locals.specs.AtLocals.{AreAt, AreAtSafe, HasYes, IsAt}
@@ -33,7 +32,7 @@ module _ {code : List Outline} (u : ℕ) (marks : List Mark) (tell : (r : ℕ) �
       λ at.
           let same : at.register ≡ r = same_Some at.register r (sym at.is ∙ ap (λ (x : Outline). slice_get x.used 0) (one at.there there) ∙ is) in
           let e : mark_at marks r ≡ mark.Address at.local at.offset =
-              address_mark (mark_at marks r) (tell r) (subst (λ x. Serves code 0 at.server u x) same at.serves) at.address in
+          address_mark (mark_at marks r) (tell r) (subst (λ x. Serves code 0 at.server u x) same at.serves) at.address in
           ap (λ m. is_of locals m) e ∙ at.such,
     )
 

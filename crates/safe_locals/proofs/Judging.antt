@@ -1,5 +1,5 @@
 -- What is known against locals, operand by operand.
-use Rattle.std.proofs.Common.{◌≡◌, ◌∙◌, ◌⊎◌, inl, inr, ℕ, zero, suc, ◌+◌, ◌<◌, ◌≤◌, Bool, true, false, ◌&&◌, IsTrue, List, length, map, replicate, Option, Some, None, slice_get, slice_set, ℤ, pos, ◌≤ℤ◌, ◌<ℤ◌, int_le, int_lt, refl, sym, ap, subst, arith}
+use Rattle.std.proofs.Common.{◌≡◌, ◌∙◌, inl, inr, ℕ, zero, suc, ◌+◌, ◌<◌, ◌≤◌, Bool, true, false, ◌&&◌, List, length, replicate, Some, slice_get, slice_set, ℤ, pos, int_le, int_lt, refl, sym, ap, subst, arith}
 use Rattle.std.specs.List.{slice_index_or}
 use Rattle.std.specs.Int.Signed.{le_z_yes, lt_z_yes}
 use Rattle.std.proofs.lemmas.Bool.{both_ways, cases_eq}
@@ -11,12 +11,12 @@ use Rattle.core_ir.specs.declared.role.Role.{Role}
 use Rattle.core_ir.specs.declared.role.Role.TheVariants as role
 use Rattle.core_ir.specs.Outline.{Outline}
 use Rattle.core_ir.specs.Flow.{HasRole, Serves, Stands}
-use Rattle.core_ir.specs.SafeLocal.{IsAccessed, IsAddress, IsInside, IsMoved, IsSafe, by_constant, by_index, loaded, stored, touched}
+use Rattle.core_ir.specs.SafeLocal.{IsAccessed, IsInside, IsMoved, by_constant, by_index, loaded, stored, touched}
 use Rattle.safe_locals.specs.declared.mark.Mark.{Mark}
 use Rattle.safe_locals.specs.declared.mark.Mark.TheVariants as mark
 use Rattle.safe_locals.specs.Safe.{AreSafeIn}
-use Rattle.safe_locals.specs.inner.Marks.{AreJudged, AreMarks, IsHarmless, IsSafeUntil, IsUse, Makes, Tells, is_harmless, is_harmless_first, is_inside, is_number, mark_at}
-use Rattle.safe_locals.proofs.Serving.{got, one, role_here, role_is, stands_within}
+use Rattle.safe_locals.specs.inner.Marks.{AreJudged, IsHarmless, IsSafeUntil, IsUse, Tells, is_harmless, is_harmless_first, is_inside, is_number, mark_at}
+use Rattle.safe_locals.proofs.Serving.{one, role_here, role_is, stands_within}
 use Rattle.safe_locals.proofs.MarksTell.{address_mark, number_mark, tells_server}
 
 both : (a b : Bool) → (a && b) ≡ true → (a ≡ true) × (b ≡ true)

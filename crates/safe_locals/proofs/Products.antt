@@ -19,7 +19,7 @@ exact n u fits small =
     let wide_u : SFits w128 (pos u) = fits_signed_from_abs w128 (pos u) (omega (arith, small)) in
     let product : SFits w128 (n *ℤ pos u) = fits_signed_mul w128 n (pos u) (2 ^ 63) (2 ^ 32) (omega (arith, low)) (omega (arith, small)) (omega arith) in
     let read : to_z w128 (of_z w128 n) *ℤ to_z w128 (of_z w128 (pos u)) ≡ n *ℤ pos u =
-        ap (λ x. x *ℤ to_z w128 (of_z w128 (pos u))) (to_z-of_z w128 n wide_n) ∙ ap (λ x. n *ℤ x) (to_z-of_z w128 (pos u) wide_u) in
+    ap (λ x. x *ℤ to_z w128 (of_z w128 (pos u))) (to_z-of_z w128 n wide_n) ∙ ap (λ x. n *ℤ x) (to_z-of_z w128 (pos u) wide_u) in
     ap (λ x. to_z w128 (of_z w128 x)) read ∙ to_z-of_z w128 (n *ℤ pos u) product
 
 pub product_is : (n : ℤ) (u : ℕ) (a b : ℤ) → SFits w64 n → u < 2 ^ 32 → a ≡ n → b ≡ pos u

@@ -1,5 +1,5 @@
 -- From the answers for a body to those for a function, and for the functions of a program.
-use Rattle.std.proofs.Common.{◌≡◌, ◌∙◌, ◌⊎◌, inl, inr, ◌↔◌, ℕ, zero, suc, ◌+◌, ◌<◌, Bool, false, IsTrue, List, [], ◌∷◌, ◌++◌, length, map, Some, slice_get, slice_index_or, refl, sym, ap, subst, arith}
+use Rattle.std.proofs.Common.{◌≡◌, ◌∙◌, ◌⊎◌, inl, inr, ◌↔◌, ℕ, zero, suc, Bool, false, IsTrue, List, [], ◌∷◌, ◌++◌, length, map, Some, slice_get, slice_index_or, refl, sym, ap, subst, arith}
 use Rattle.std.specs.Option.{option_map}
 use Rattle.std.proofs.lemmas.List.{length-map}
 use Rattle.std.proofs.lemmas.Option.{none-some, same_Some, slice_get-map, slice_get_cases}
@@ -13,7 +13,7 @@ exact_of : (f : Function) (units : List ℕ) (safe : List Bool) → units ≡ ma
     → (v : ℕ) (l : Local) → slice_get f.locals v ≡ Some l → IsTrue (slice_index_or safe v false) ↔ IsSafeLocal f v
 exact_of f units safe is are v l at =
     let there : slice_get units v ≡ Some l.units =
-        ap (λ us. slice_get us v) is ∙ slice_get-map (λ (x : Local). x.units) f.locals v ∙ ap (λ o. option_map (λ (x : Local). x.units) o) at in
+    ap (λ us. slice_get us v) is ∙ slice_get-map (λ (x : Local). x.units) f.locals v ∙ ap (λ o. option_map (λ (x : Local). x.units) o) at in
     let e = are.exact v l.units there in (
       λ yes. record { local = l; there = at; safe = e.0 yes },
       λ s. e.1 (subst (λ (x : Local). IsSafe (map outline_of f.body) v x.units) (same_Some s.local l (sym s.there ∙ at)) s.safe),

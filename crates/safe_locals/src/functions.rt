@@ -102,6 +102,11 @@ pub fn at_safe(
     ensures { IfOk result (λ at. IfSome (slice_get program.now.functions f)
         (λ function. AreAtSafe function at)) }
 {
-    let at = at_safe_of(alloc, program, &program.functions.as_slice()[f as usize], safe)?;
+    let at = at_safe_of(
+        alloc,
+        program,
+        &program.functions.as_slice()[f as usize],
+        safe,
+    )?;
     Ok(at)
 }

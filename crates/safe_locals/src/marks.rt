@@ -59,7 +59,10 @@ pub(crate) fn made(marks: &[Mark], role: Role, place: u64) -> Mark
 {
     match role {
         Role::Const { v } => Mark::Number(v),
-        Role::Local { v } => Mark::Address { local: v, offset: 0 },
+        Role::Local { v } => Mark::Address {
+            local: v,
+            offset: 0,
+        },
         Role::Shifted { p, k } => moved(mark_at(marks, p), i128::from(k), place),
         Role::Indexed { p, i, s } => moved_by(mark_at(marks, p), mark_at(marks, i), s, place),
         _ => Mark::Other,

@@ -1,5 +1,5 @@
 -- What is known at a place of a body: what serves each register, and which locals were used in harmless ways alone.
-use Rattle.std.specs.Prelude.{◌≡◌, ◌⊎◌, ◌<◌, ◌≤◌, ◌*◌, ◌^◌, ℕ, zero, suc, Bool, true, false, ◌&&◌, IsTrue, List, Some, length, unsigned_abs, slice_get, slice_index_or, ◌↔◌, ℤ, pos, ◌+ℤ◌, ◌*ℤ◌, ◌≤ℤ◌, ◌<ℤ◌, int_le, int_lt}
+use Rattle.std.specs.Prelude.{◌≡◌, ◌⊎◌, ◌<◌, ◌≤◌, ◌*◌, ◌^◌, ℕ, zero, suc, Bool, true, false, ◌&&◌, IsTrue, List, Some, length, unsigned_abs, slice_get, slice_index_or, ◌↔◌, ℤ, pos, ◌+ℤ◌, ◌*ℤ◌, int_le, int_lt}
 use Rattle.core_ir.specs.Outline.{Outline}
 use Rattle.core_ir.specs.declared.role.Role.{Role}
 use Rattle.core_ir.specs.declared.role.Role.TheVariants as role

@@ -1,4 +1,4 @@
-use Rattle.std.proofs.Common.{◌∙◌, ◌<◌, IfSome, length, map, sym, subst, arith}
+use Rattle.std.proofs.Common.{◌∙◌, ◌<◌, IfSome, map, sym, subst, arith}
 use Rattle.std.proofs.lemmas.List.{length-map}
 use Rattle.safe_locals.specs.inner.Marks.{AreAtUntil}
 use Rattle.safe_locals.proofs.AtEach.{at_all, at_first, at_pushed}

@@ -1,4 +1,4 @@
-use Rattle.std.proofs.Common.{◌≡◌, ◌∙◌, ◌↔◌, IsTrue, map, sym, ap, subst}
+use Rattle.std.proofs.Common.{◌∙◌, ◌↔◌, IsTrue, map, sym, ap, subst}
 use Rattle.safe_locals.specs.AtLocals.{HasYes, IsAt}
 use Rattle.safe_locals.specs.inner.Marks.{is_of}
 use Rattle.safe_locals.proofs.AtEach.{at_exact}

@@ -1,4 +1,4 @@
-use Rattle.std.proofs.Common.{◌≡◌, ◌∙◌, ℕ, ◌+◌, Bool, List, [], ◌∷◌, Some, length, slice_get, refl, sym, ap, subst, arith}
+use Rattle.std.proofs.Common.{◌≡◌, ◌∙◌, ℕ, ◌+◌, Bool, List, [], ◌∷◌, Some, length, slice_get, refl, sym, ap, subst}
 use Rattle.std.proofs.lemmas.List.{length-append}
 use Rattle.std.proofs.lemmas.Option.{slice_get_read}
 use Rattle.core_ir.specs.declared.program.Function.{Function}
@@ -15,7 +15,7 @@ loop-function-preserved c =
     let k : ℕ = c.loop-function.function-index in
     let long : length c.push.new.self ≡ length table + 1 = ap length c.in_ok-push.ensures.ok ∙ length-append table (safe ∷ []) in
     let at : slice_get fs k ≡ Some c.function-item.result =
-        ap (λ xs. slice_get xs k) (sym c.as_slice-function-items.ensures) ∙ slice_get_read items (length items) k c.function-item.result refl c.loop-function-test.true c.function-item.is in
+    ap (λ xs. slice_get xs k) (sym c.as_slice-function-items.ensures) ∙ slice_get_read items (length items) k c.function-item.result refl c.loop-function-test.true c.function-item.is in
     record {
       each = long ∙ ap (λ n. n + 1) c.loop-function.invariant.each;
       exact = subst (λ t. (n : ℕ) (f : Function) (s : List Bool) → slice_get fs n ≡ Some f → slice_get t n ≡ Some s → AreSafe f s) (sym c.in_ok-push.ensures.ok)

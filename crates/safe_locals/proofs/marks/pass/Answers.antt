@@ -14,7 +14,7 @@ returns-in-Some-clause-marks g c =
     let marks = c.args.marks.now in
     let d : ℕ = c.in-Some.register in
     let m : c.made-mark.result ≡ made marks i.role =
-        c.made-mark.ensures.value ∙ ap (λ ms. made ms c.role.result) c.as_slice.ensures ∙ ap (λ r. made marks r) c.role.ensures in
+    c.made-mark.ensures.value ∙ ap (λ ms. made ms c.role.result) c.as_slice.ensures ∙ ap (λ r. made marks r) c.role.ensures in
     let e : c.set.new.self ≡ slice_set marks d (made marks i.role) = c.set.ensures ∙ ap (λ x. slice_set marks d x) m in
     let defines : i.defined ≡ Some d = sym c.defined.ensures ∙ c.in-Some.is in
     let low : d < length marks = subst (λ o. IfSome o (λ x. x < length marks)) defines c.requires.defined in

@@ -1,4 +1,4 @@
-use Rattle.std.proofs.Common.{map, arith}
+use Rattle.std.proofs.Common.{arith}
 use Rattle.safe_locals.proofs.Judging.{judged_next}
 use Rattle.safe_locals.proofs.operands.judge.Goals as goal
 

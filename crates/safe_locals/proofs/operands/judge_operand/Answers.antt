@@ -19,8 +19,8 @@ returns-then-not-is_harmless g c =
     let at : slice_get units c.in-Address.local ≡ Some n = slice_get-get_or units c.in-Address.local 0 c.if-local-units.true in
     let fits : SFits w128 c.in-Address.offset = search rules in
     let value : c.is_harmless.result ≡ is_harmless marks i.role c.args.operand c.in-Address.offset n =
-        c.is_harmless.ensures ∙ ap (λ o. is_harmless marks c.role.result c.args.operand o n) (to_z-of_z w128 c.in-Address.offset fits)
-        ∙ ap (λ r. is_harmless marks r c.args.operand c.in-Address.offset n) c.role.ensures in
+    c.is_harmless.ensures ∙ ap (λ o. is_harmless marks c.role.result c.args.operand o n) (to_z-of_z w128 c.in-Address.offset fits)
+    ∙ ap (λ r. is_harmless marks r c.args.operand c.in-Address.offset n) c.role.ensures in
     let harm : is_harmless marks i.role c.args.operand c.in-Address.offset n ≡ false = sym value ∙ c.if-not-is_harmless.true in
     subst (AreJudged code units c.args.place (c.args.operand + 1)) (sym c.set.ensures)
     (judged_against c.args.place marks c.requires.marks.tell i c.requires.here c.args.operand c.operand.result c.operand.ensures units c.args.safe.now c.requires.judged c.in-Address.local c.in-Address.offset n at e harm)
@@ -37,8 +37,8 @@ returns-else-local-units g c =
       | else-local-units-via-then-local-units+else-not-is_harmless w ↦
           let at : slice_get units c.in-Address.local ≡ Some n = slice_get-get_or units c.in-Address.local 0 w.if-local-units.true in
           let value : w.is_harmless.result ≡ is_harmless marks i.role c.args.operand c.in-Address.offset n =
-              w.is_harmless.ensures ∙ ap (λ o. is_harmless marks w.role.result c.args.operand o n) (to_z-of_z w128 c.in-Address.offset fits)
-              ∙ ap (λ r. is_harmless marks r c.args.operand c.in-Address.offset n) w.role.ensures in
+          w.is_harmless.ensures ∙ ap (λ o. is_harmless marks w.role.result c.args.operand o n) (to_z-of_z w128 c.in-Address.offset fits)
+          ∙ ap (λ r. is_harmless marks r c.args.operand c.in-Address.offset n) w.role.ensures in
           let fine : is_harmless marks i.role c.args.operand c.in-Address.offset n ≡ true = sym value ∙ w.if-not-is_harmless.false in
           judged_harmless c.args.place marks c.requires.marks.tell i c.requires.here c.args.operand c.operand.result c.operand.ensures units c.args.safe.now c.requires.judged c.in-Address.local c.in-Address.offset n at e fine
       | else-local-units-via-else-local-units w ↦
