@@ -83,8 +83,8 @@ fn at_safe_of(
     Ok(at)
 }
 
-/// Which instructions of a function of a valid program are at its safe locals, of which `safe` tells:
-/// an address of one serves their first operand.
+/// Which instructions of a function of a valid program are at its safe locals, of which `safe`
+/// tells: an address of one serves their first operand.
 ///
 /// # Errors
 ///

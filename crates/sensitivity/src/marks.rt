@@ -10,8 +10,8 @@ use c_types::StructDef;
 use sqlite_items::Items;
 use std::alloc::{AllocError, Global};
 
-/// The class of a pointer to each struct, `Regular` until the struct is known to hold code pointers,
-/// and the structs of which it is known, in the order in which they were found.
+/// The class of a pointer to each struct, `Regular` until the struct is known to hold code
+/// pointers, and the structs of which it is known, in the order in which they were found.
 #[derive(Drop)]
 pub(crate) struct Marks {
     pub(crate) of_structs: Items<Class>,

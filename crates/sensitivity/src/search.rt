@@ -109,8 +109,8 @@ impl Search {
         Ok(())
     }
 
-    /// Marks what asks for structs that were found, from the first to the last. Each struct is found
-    /// once.
+    /// Marks what asks for structs that were found, from the first to the last. Each struct is
+    /// found once.
     pub(crate) fn spread(&mut self, structs: &StructTable) -> Result<(), AllocError>
         requires search { IsSearch structs.now self.old }
         ensures search { OnOk result (IsSearch structs.now self.new) }
