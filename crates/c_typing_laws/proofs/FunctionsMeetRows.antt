@@ -241,14 +241,16 @@ module _ (stay : UnitsStay) (grow : TablesGrow) where
         },
         λ k ahead below.
             let own : Below (inside k f a.1.locals) a.1 = record { structs = below.structs; functions = below.functions; strings = below.strings; locals = stands a.1.locals } in
-            let n = ((scope-goes (inside k f a.1.locals) gs ahead layers b start scalar clean).found a is (tt, file.scopes)).2 own in
-            (record { structs = n.0.structs; functions = n.0.functions; strings = n.0.strings; locals = λ m l here. no_local w.locals file.no_local _ m l here }, record {
-              same = refl;
-              block = n.1;
-              locals = body-locals gs f layers b start a scalar named clean (tt, file.scopes) file.no_local is;
-              units = units-stay stay a.1.structs k.structs below.structs (local_types a.1) (h.0.units (subst (HaveUnits w.structs) (sym file.no_local) tt));
-              jumps = body-jumps f layers b start a is;
-            }),
+            let n = ((scope-goes (inside k f a.1.locals) gs ahead layers b start scalar clean).found a is (tt, file.scopes)).2 own in (
+              record { structs = n.0.structs; functions = n.0.functions; strings = n.0.strings; locals = λ m l here. no_local w.locals file.no_local _ m l here },
+              record {
+                same = refl;
+                block = n.1;
+                locals = body-locals gs f layers b start a scalar named clean (tt, file.scopes) file.no_local is;
+                units = units-stay stay a.1.structs k.structs below.structs (local_types a.1) (h.0.units (subst (HaveUnits w.structs) (sym file.no_local) tt));
+                jumps = body-jumps f layers b start a is;
+              },
+            ),
       )
   body_by fs gs f layers b w (Err e) is file scalar named r end = cc
 
@@ -299,11 +301,13 @@ module _ (stay : UnitsStay) (grow : TablesGrow) where
         let h = (of_naming fs gs w (declare_function x f w) (λ k first. declared-goes k gs first x f w)).found a.0 a.1.0 at in
         let u : World = a.0.1 in
         subst (λ (s : FnTy × World). (f ≡ s.0) × Defines gs x f w s.1)
-        (ended f (record u { functions = with_function (marked false true) u.functions x; locals = [] }) r a.1.1)
-        (refl, record {
-          file = marked-file gs x f w u at h.0 may (declared-known x f w may a.0 a.1.0);
-          below = λ k first b. (h.1 k first (below-defined k u x h.0.no_local b)).0;
-        })
+        (ended f (record u { functions = with_function (marked false true) u.functions x; locals = [] }) r a.1.1) (
+          refl,
+          record {
+            file = marked-file gs x f w u at h.0 may (declared-known x f w may a.0 a.1.0);
+            below = λ k first b. (h.1 k first (below-defined k u x h.0.no_local b)).0;
+          },
+        )
 
     -- a definition, by its declarator's layers
     record DefinesBy (gs : List Ty) (base : Ty) (d : LayeredDeclarator) (w : World) (r : FnTy × World) : Type 0 where
@@ -368,24 +372,26 @@ module _ (stay : UnitsStay) (grow : TablesGrow) where
         let t : FnTy = p.0.0 in
         let named : name_of (declared x.0.tree (ty.Function t)) ≡ x.0.name = declared-name d w x (ty.Function t) is in
         let typed : unwrap_or (function_of (out-Declared (declared x.0.tree (ty.Function t))).ty) no_type ≡ t =
-            ap (λ u. unwrap_or (function_of u) no_type) (declared-ty x.0.tree (ty.Function t)) ∙ ap (λ o. unwrap_or o no_type) (function-is t) in
+        ap (λ u. unwrap_or (function_of u) no_type) (declared-ty x.0.tree (ty.Function t)) ∙ ap (λ o. unwrap_or o no_type) (function-is t) in
         record {
           file = subst (λ (g : Signature). IsFile gs (fs ++ g ∷ []) p.1) (sym (λ i. record { name = named i; ty = typed i })) parts_too.file;
           spec = refl;
           rows = λ k first below.
               let m = parts_too.rows k first below in
-              let n = known k first m.0 in
-              (n.0, λ spec. record {
-                spec = spec;
-                bounds = parts.declared-made k x.0.tree (ty.Function t) n.1;
-                ty = declared-ty x.0.tree (ty.Function t) ∙ ap (λ u. ty.Function u) (sym typed);
-                allowed = subst IsFunctionType (sym typed) parts_too.type.allowed;
-                params = subst (λ u. take (length (out-FnTy u).params) (map (λ l. l.ty) p.0.1) ≡ (out-FnTy u).params) (sym typed)
-                    (params-first t (own_types x.0.layers) m.1.locals.0 (map (λ l. l.ty) p.0.1) parts_too.type.params m.1.locals.1);
-                units = units-listed k p.0.1 m.1.units;
-                block = subst (λ u. IsTypedBlock (inside k u p.0.1) p.0.2) (sym typed) m.1.block;
-                jumps = ap not m.1.jumps;
-              });
+              let n = known k first m.0 in (
+                n.0,
+                λ spec. record {
+                  spec = spec;
+                  bounds = parts.declared-made k x.0.tree (ty.Function t) n.1;
+                  ty = declared-ty x.0.tree (ty.Function t) ∙ ap (λ u. ty.Function u) (sym typed);
+                  allowed = subst IsFunctionType (sym typed) parts_too.type.allowed;
+                  params = subst (λ u. take (length (out-FnTy u).params) (map (λ l. l.ty) p.0.1) ≡ (out-FnTy u).params) (sym typed)
+                      (params-first t (own_types x.0.layers) m.1.locals.0 (map (λ l. l.ty) p.0.1) parts_too.type.params m.1.locals.1);
+                  units = units-listed k p.0.1 m.1.units;
+                  block = subst (λ u. IsTypedBlock (inside k u p.0.1) p.0.2) (sym typed) m.1.block;
+                  jumps = ap not m.1.jumps;
+                },
+              );
         }
 
     pub function-found : (gs : List Ty) (s : TypedSpec) (base : Ty) (d : Declarator) (b : Block) (w : World) → IsFile gs fs w

@@ -237,7 +237,7 @@ module _ (stay : UnitsStay) (grow : TablesGrow) (law : SameIsEquality) where
       let same : types_of (item_globals a.0 ++ globals b.0) ≡ types_of (globals (a.0 ∷ b.0)) = ap types_of (sym (by_first a.0 b.0)) in
       let types : (gs ++ types_of (item_globals a.0)) ++ types_of (globals b.0) ≡ gs ++ types_of (globals (a.0 ∷ b.0)) = types-regroup gs (item_globals a.0) (globals b.0) ∙ ap (λ ts. gs ++ ts) same in
       let signatures : (fs ++ item_signatures a.0) ++ map signature (definitions b.0) ≡ fs ++ map signature (definitions (a.0 ∷ b.0)) =
-          append_assoc fs (item_signatures a.0) (map signature (definitions b.0)) ∙ ap (λ ss. fs ++ ss) (sym (signed_by_first a.0 b.0)) in
+      append_assoc fs (item_signatures a.0) (map signature (definitions b.0)) ∙ ap (λ ss. fs ++ ss) (sym (signed_by_first a.0 b.0)) in
       left-same gs fs w b.1 (a.0 ∷ b.0) r is (
         subst (λ hs. IsFile hs (fs ++ map signature (definitions (a.0 ∷ b.0))) b.1) types (subst (λ ss. IsFile ((gs ++ types_of (item_globals a.0)) ++ types_of (globals b.0)) ss b.1) signatures g.0),
         subst (are_numbered (length gs)) (sym (by_first a.0 b.0)) (numbered-joined (length gs) _ (item_globals a.0) (globals b.0) (file.length-types gs (item_globals a.0)) h.1 g.1),

@@ -1,6 +1,7 @@
--- Based on: every pointer with bounds has those of an object that was made before it, every function is one whose address
+-- Based on: every pointer with bounds has those of an object that was made before it, every function is one
+-- whose address
 -- the program takes, and the safe store is accessed at addresses that were just touched.
-use Rattle.std.specs.Prelude.{◌≡◌, ◌⊎◌, ℕ, true, false, ◌+◌, ◌*◌, ◌-◌, ◌<◌, ◌≤◌, List, [], ◌∷◌, ◌++◌, map, Option, Some, None, Contains, slice_get}
+use Rattle.std.specs.Prelude.{◌≡◌, ◌⊎◌, ℕ, pos, true, false, ◌+◌, ◌*◌, ◌-◌, ◌<◌, ◌≤◌, List, [], ◌∷◌, ◌++◌, map, Option, Some, None, Contains, slice_get}
 use Rattle.std.specs.FinMap.{get}
 use Rattle.std.specs.List.{All}
 use Rattle.core_ir.specs.declared.instr.Instr.TheVariants as instr
@@ -17,6 +18,7 @@ use Rattle.meaning.specs.declared.value.Entry.{Entry}
 use Rattle.meaning.specs.declared.value.Value.{Value}
 use Rattle.meaning.specs.declared.value.Value.TheVariants.{Bare, Based, Code as CodeValue}
 use Rattle.sensitivity.specs.declared.class.Class.{Class}
+use Rattle.machine.specs.Addresses.{argument_address, start_address}
 use Rattle.machine.specs.declared.code.Code.{Code}
 use Rattle.machine.specs.declared.code.CodeFunction.{CodeFunction}
 use Rattle.machine.specs.declared.code.CodeLocal.{CodeLocal}
@@ -25,7 +27,7 @@ use Rattle.machine.specs.declared.code.CodePlace.TheVariants.{Touch, Load, Store
 use Rattle.machine.specs.Frames.{Frame, Thread, Running}
 use Rattle.machine.specs.Numbers.{low_word}
 use Rattle.machine.specs.Protected.{protected}
-use Rattle.machine.specs.Run.{Setting, Site, State, Step, Turned, happens, state_after, steps_from}
+use Rattle.machine.specs.Run.{Setting, Site, State, Step, Turned, happens, opening, state_after, steps_from}
 use Rattle.machine.specs.Shapes.{number_in, register}
 use Rattle.machine.specs.Threads.{place_at}
 use Rattle.machine.specs.Transfers.{IsOthers}
@@ -50,13 +52,13 @@ locals_in (Some f) = f.locals
 abbrev pub frame_objects : Code → ℕ → ℕ → List Object
 frame_objects code f id = map (local_object id) (locals_in (slice_get code.functions f))
 
-abbrev pub given_object : Frame Value → ℕ → ℕ → Object
-given_object top a id =
+abbrev pub allocated_object : Frame Value → ℕ → ℕ → Object
+allocated_object top a id =
     record { lower = 64 * id; upper = 64 * id + low_word (number_in protected top a); id = id }
 
 abbrev pub made_by : Code → Frame Value → ℕ → Option CodePlace → List Object
 made_by code top id (Some Enter) = frame_objects code top.function id
-made_by code top id (Some (Malloc d a)) = given_object top a id ∷ []
+made_by code top id (Some (Malloc d a)) = allocated_object top a id ∷ []
 made_by code top id _ = []
 
 abbrev pub made_in : Code → Option (Thread Value) → ℕ → List Object
@@ -111,42 +113,44 @@ pub record HasOnly (P : Value → Type 0) (s : State) : Type 0 where
   pub frames : All (ThreadHas (FrameHas P)) s.threads
   pub entries : (a : ℕ) (e : Entry) → get s.store.entries a ≡ Some e → P (value_of e)
 
--- the frame's object was drawn by its `Enter`, so its locals are among the objects
+-- a frame with locals that stands behind its `Enter` has an object, and these are among those that were made
 abbrev pub IsDrawn : Code → List Object → Frame Value → Type 0
 IsDrawn code objects f =
-    (id : ℕ) (o : Object)
-    → f.object ≡ Some id
-    → Contains (frame_objects code f.function id) o
-    → Contains objects o
-
--- a frame with locals that stands behind its `Enter` has an object
-abbrev pub HasObject : Code → Frame Value → Type 0
-HasObject code f =
     (l : CodeLocal)
     → Contains (locals_in (slice_get code.functions f.function)) l
     → 0 < f.place
-    → (id : ℕ) × (f.object ≡ Some id)
-
-pub record FrameIsDrawn (code : Code) (objects : List Object) (f : Frame Value) : Type 0 where
-  pub drawn : IsDrawn code objects f
-  pub object : HasObject code f
+    → (id : ℕ) × (f.object ≡ Some id) × Contains objects (local_object id l)
 
 pub record IsBased (program : Program) (code : Code) (objects : List Object) (s : State) : Type 0 where
   pub values : HasOnly (IsKnown program objects) s
-  pub frames : All (ThreadHas (FrameIsDrawn code objects)) s.threads
+  pub frames : All (ThreadHas (IsDrawn code objects)) s.threads
+
+-- the objects that events make, from a state on, the last first
+abbrev pub all_made : Setting → State → List Event → List Object
+all_made setting s [] = []
+all_made setting s (e ∷ es) =
+    all_made setting (happens setting s e).after es ++ made setting.code s (happens setting s e).step
 
 -- each event keeps this, of any state that has it, with what it made
 abbrev pub ValuesAreKept : Program → Setting → Type 0
 ValuesAreKept program setting =
     (objects : List Object) (s : State) (e : Event)
     → IsBased program setting.code objects s
-    → IsBased program setting.code (made setting.code s (happens setting s e).step ++ objects) (happens setting s e).after
+    → IsBased program setting.code (made setting.code s (happens setting s e).step ++ objects)
+    (happens setting s e).after
 
 -- ---- accesses of the safe store
 
 -- where a thread's word stands that tells its start: the function's, and the argument's
 abbrev pub IsStartWord : ℕ → ℕ → Type 0
-IsStartWord t a = (a ≡ 64 + 2 * t) ⊎ (a ≡ 65 + 2 * t)
+IsStartWord t a = (a ≡ start_address t) ⊎ (a ≡ argument_address t)
+
+-- The register has the number of a thread that there can be, and the address is that of its word.
+pub record IsWordOf (word : ℕ → ℕ) (top : Frame Value) (r a : ℕ) : Type 0 where
+  pub thread : ℕ
+  pub number : register protected top r ≡ Bare (pos thread)
+  pub few : thread < 16
+  pub at : a ≡ word thread
 
 -- the last turn of thread t in these steps
 pub record IsLastTurn (before : List Step) (t : ℕ) (step : Step) : Type 0 where
@@ -159,9 +163,11 @@ pub record IsLastTurn (before : List Step) (t : ℕ) (step : Step) : Type 0 wher
 abbrev pub site_before : Site → Site
 site_before site = record site { place = site.place - 1 }
 
--- The register has a pointer inside its bounds, to this address, and the thread's turn before touched it: its object's id
+-- The register has a pointer inside its bounds, to this address, and the thread's turn before touched it: its
+-- object's id
 -- wasn't ended.
-pub record IsTouched (code : Code) (before : List Step) (t : ℕ) (site : Site) (top : Frame Value) (p a : ℕ) : Type 0 where
+pub record IsTouched (code : Code) (before : List Step) (t : ℕ) (site : Site) (top : Frame Value) (p a : ℕ)
+    : Type 0 where
   pub lower : ℕ
   pub upper : ℕ
   pub id : ℕ
@@ -176,11 +182,11 @@ pub record IsTouched (code : Code) (before : List Step) (t : ℕ) (site : Site) 
 abbrev pub IsRightAccess : Code → List Step → ℕ → Site → Frame Value → Option CodePlace → ℕ → Type 0
 IsRightAccess code before t site top (Some (Load d p kind unit)) a = IsTouched code before t site top p a
 IsRightAccess code before t site top (Some (StorePlace p v kind unit)) a = IsTouched code before t site top p a
-IsRightAccess code before t site top (Some (StartArg r v)) a = (m : ℕ) × IsStartWord m a
-IsRightAccess code before t site top (Some (StartFn r f)) a = (m : ℕ) × IsStartWord m a
+IsRightAccess code before t site top (Some (StartArg r v)) a = IsWordOf argument_address top r a
+IsRightAccess code before t site top (Some (StartFn r f)) a = IsWordOf start_address top r a
 IsRightAccess code before t site top _ a = ⊥
 
--- a thread that hasn't begun gets its own start words
+-- a thread that has no frame yet gets its own start words
 abbrev pub IsRightFrom : Code → List Step → ℕ → Option Site → Option (Thread Value) → ℕ → Type 0
 IsRightFrom code before t None thread a = IsStartWord t a
 IsRightFrom code before t (Some site) (Some (Running top below)) a =
@@ -202,4 +208,17 @@ AccessesAreRight setting s events =
     → (happens setting (state_after setting s earlier) e).step ≡ Turned t site action answer notes
     → accesses action ≡ Some a
     → IsRightFrom setting.code (steps_from setting s earlier) t site
-      (slice_get (state_after setting s earlier).threads t) a
+    (slice_get (state_after setting s earlier).threads t) a
+
+-- ---- runs
+
+-- Behind each event of a run, with so many threads, the values are known by the objects that were made so far,
+-- and each get
+-- and put is right.
+pub record BasedOn (program : Program) (setting : Setting) (threads : ℕ) (events : List Event) : Type 0 where
+  pub values :
+      (before after : List Event)
+      → events ≡ before ++ after
+      → IsBased program setting.code (all_made setting (opening setting threads) before)
+      (state_after setting (opening setting threads) before)
+  pub accesses : AccessesAreRight setting (opening setting threads) events

@@ -14,17 +14,17 @@ use Rattle.sensitivity.specs.declared.class.Class.{Class}
 use Rattle.sensitivity.specs.declared.class.Class.TheVariants as class
 use Rattle.machine.specs.declared.code.CodePlace.{CodePlace}
 use Rattle.machine.specs.declared.code.CodePlace.TheVariants as code
-use Rattle.machine.specs.declared.code.Kind.{Kind}
-use Rattle.machine.specs.declared.code.Kind.TheVariants as kind
+use Rattle.machine.specs.declared.code.ScalarKind.{ScalarKind}
+use Rattle.machine.specs.declared.code.ScalarKind.TheVariants as kind
 use Rattle.machine.specs.declared.code.Origin.{Origin}
 
 -- the kind of a pointer of this class
-abbrev pub kind_of_class : Class → Kind
+abbrev pub kind_of_class : Class → ScalarKind
 kind_of_class class.Code = kind.Code
 kind_of_class class.Regular = kind.Regular
 kind_of_class _ = kind.Protected
 
-abbrev pub kind_at : Class → Outer → Kind
+abbrev pub kind_at : Class → Outer → ScalarKind
 kind_at c (Ty-F.Pointer target) = kind_of_class c
 kind_at c Ty-F.Char = kind.Char
 kind_at c _ = kind.Int
@@ -48,7 +48,7 @@ pub record Context : Type 0 where
 abbrev pub keeps_bounds : Context → Ty → Bool
 keeps_bounds x t = not (is_regular (x.class (ty.Pointer t)))
 
-abbrev pub kind_of : Context → Ty → Kind
+abbrev pub kind_of : Context → Ty → ScalarKind
 kind_of x t = kind_at (x.class t) (out-Ty t)
 
 abbrev pub global_code : Context → ℕ → ℕ → Option GlobalVar → CodePlace

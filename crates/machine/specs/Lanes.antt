@@ -1,4 +1,5 @@
--- What a thread asks of a store that it shares with others: addresses, ids, sizes and entries within the store, and no more
+-- What a thread asks of a store that it shares with others: addresses, ids, sizes and entries within the store,
+-- and no more
 -- puts than half of its turns.
 use Rattle.std.specs.Prelude.{◌≡◌, ℕ, ℤ, ◌+◌, ◌*◌, ◌^◌, ◌<◌, ◌≤◌, List, [], ◌∷◌, ◌++◌, Option, Some, None}
 use Rattle.std.specs.List.{All}
@@ -53,7 +54,8 @@ abbrev pub puts_among : List Call → ℕ
 puts_among [] = 0
 puts_among (c ∷ cs) = one_put c.0 + puts_among cs
 
--- In each run of thread m alone whose answers fit, what it asks fits, and its puts are at most half of its counted turns.
+-- In each run of thread m alone whose answers fit, what it asks fits, and its puts are at most half of its
+-- counted turns.
 abbrev pub AsksWhatFits : Code → List ℤ → ℕ → ℕ → Type 0
 AsksWhatFits code inputs slots m =
     (before : List Call) (last : Call)

@@ -1,5 +1,6 @@
 pub mod Numbers
 pub mod Values
+pub mod Addresses
 pub mod Decided
 pub mod Stands
 pub mod Frames

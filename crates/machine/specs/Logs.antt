@@ -11,10 +11,11 @@ use Rattle.meaning.specs.declared.event.Event.{Event}
 use Rattle.meaning.specs.declared.event.Event.TheVariants.{Corrupt, Cut}
 use Rattle.meaning.specs.declared.value.Value.{Value}
 use Rattle.meaning.specs.Legal.{Call}
+use Rattle.machine.specs.Addresses.{start_address}
 use Rattle.machine.specs.declared.code.Code.{Code}
 use Rattle.machine.specs.Frames.{Thread, Waiting, Running, has_begun, is_live}
-use Rattle.machine.specs.Protected.{next, protected, resume, start_address}
-use Rattle.machine.specs.Run.{Setting, State, Step, Turned, happens, opening, state_after, steps_from}
+use Rattle.machine.specs.Protected.{next, protected, resume}
+use Rattle.machine.specs.Run.{Idle, Setting, State, Step, Turned, happens, opening, state_after, steps_from}
 use Rattle.machine.specs.Store.{input_at, word_at}
 use Rattle.machine.specs.Threads.{opened}
 
@@ -78,6 +79,8 @@ pub record Explained (setting : Setting) (logs : List (List Call)) (events : Lis
       → slice_get logs m ≡ Some log
       → calls_by m (steps_from setting (opening setting (length logs)) events) ≡ log
   pub corruptions : CorruptsRightly setting (opening setting (length logs)) events
+  -- each turn is one of a thread that there is and that is live
+  pub busy : All (λ step. step ≢ Idle) (steps_from setting (opening setting (length logs)) events)
 
 -- ---- runs that real threads end
 
@@ -126,6 +129,8 @@ pub record Settled (setting : Setting) (threads most : ℕ) (events : List Event
   pub no_other_cuts : All (λ e. IsCut e → ⊥) before
   pub only_cuts : All IsCut cuts
   pub ascending : AreAscending cuts
+  -- of threads that there are
+  pub cuts_there : (t : ℕ) → Contains cuts (Cut t) → t < threads
   -- no thread takes more turns
   pub few_turns :
       (t : ℕ) → t < threads

@@ -4,8 +4,8 @@ use Rattle.std.specs.Int.{w64, int_wrapping_add, int_wrapping_sub, int_wrapping_
 use Rattle.std.specs.Ordering.{int_eq}
 use Rattle.core_ir.specs.declared.operator.Operator.{Operator}
 use Rattle.core_ir.specs.declared.operator.Operator.TheVariants as op
-use Rattle.machine.specs.declared.code.Kind.{Kind}
-use Rattle.machine.specs.declared.code.Kind.TheVariants as kind
+use Rattle.machine.specs.declared.code.ScalarKind.{ScalarKind}
+use Rattle.machine.specs.declared.code.ScalarKind.TheVariants as kind
 
 -- ---- 32 bits
 
@@ -60,13 +60,13 @@ computed_one _ x = int_wrapping_neg w64 x
 -- ---- kinds
 
 -- what of a number a value of this kind has
-abbrev pub cut : Kind → ℤ → ℤ
-cut kind.Int n = n
-cut kind.Char n = pos (low_word n % 256)
-cut _ n = pos (low_word n)
+abbrev pub truncated : ScalarKind → ℤ → ℤ
+truncated kind.Int n = n
+truncated kind.Char n = pos (low_word n % 256)
+truncated _ n = pos (low_word n)
 
 -- its values stand in the safe store
-abbrev pub is_kept : Kind → Bool
+abbrev pub is_kept : ScalarKind → Bool
 is_kept kind.Code = true
 is_kept kind.Protected = true
 is_kept _ = false

@@ -1,6 +1,7 @@
--- The unprotected machine: C on one memory, where return words stand too. Its turns are over the values of a domain: numbers
+-- The unprotected machine: C on one memory, where return words stand too. Its turns are over the values of a
+-- domain: numbers
 -- alone, or numbers with shadows.
-use Rattle.std.specs.Prelude.{ℕ, suc, ℤ, pos, negsuc, ◌+◌, ◌-◌, ◌*◌, ◌%◌, ◌^◌, true, ◌&&◌, if◌then◌else◌, nat_lt, nat_le, List, [], ◌∷◌, length, replicate, Option, Some, None, slice_get, slice_set}
+use Rattle.std.specs.Prelude.{ℕ, suc, ℤ, pos, negsuc, ◌+◌, ◌-◌, ◌*◌, ◌%◌, ◌^◌, Bool, true, not, ◌&&◌, if◌then◌else◌, nat_eq, nat_lt, nat_le, List, [], ◌∷◌, length, replicate, Option, Some, None, slice_get, slice_set}
 use Rattle.std.specs.FinMap.{empty, insert}
 use Rattle.std.specs.Ordering.{int_eq}
 use Rattle.core_ir.specs.Typed.{start_type}
@@ -13,14 +14,15 @@ use Rattle.meaning.specs.declared.event.Event.TheVariants.{Turn, Corrupt, Cut}
 use Rattle.meaning.specs.declared.note.Place.{Place}
 use Rattle.meaning.specs.declared.value.Stop.{Stop}
 use Rattle.meaning.specs.declared.value.Stop.TheVariants.{Budget, Depth, Divide, Hijack, Slots, Wild}
+use Rattle.machine.specs.Addresses.{argument_address, done_address, slots_for, start_address}
 use Rattle.machine.specs.declared.code.Code.{Code}
 use Rattle.machine.specs.declared.code.CodePlace.{CodePlace}
-use Rattle.machine.specs.declared.code.Kind.{Kind}
-use Rattle.machine.specs.declared.code.Kind.TheVariants as kind
+use Rattle.machine.specs.declared.code.ScalarKind.{ScalarKind}
+use Rattle.machine.specs.declared.code.ScalarKind.TheVariants as kind
 use Rattle.machine.specs.Domain.{Callee, Domain, Reaches, Refused}
 use Rattle.machine.specs.Frames.{Frame, Thread, Waiting, Starting, Running, Stopped, Effect, Stops, Goes, Enters, Leaves, Nothing, ToObject, has_begun, is_live}
-use Rattle.machine.specs.Numbers.{cut, is_kept, is_zero, low_word}
-use Rattle.machine.specs.Protected.{argument_address, done_address, finds_zero, give_action, is_no_thread, is_thread_number, slots_for, start_address, word_of}
+use Rattle.machine.specs.Numbers.{is_kept, is_zero, low_word, truncated}
+use Rattle.machine.specs.Protected.{finds_zero, allocate_action, is_no_thread, is_thread_number, word_of}
 use Rattle.machine.specs.Run.{Step, Turned, Wrote, CutOff, Idle, first_drawn, site_of}
 use Rattle.machine.specs.Shapes as shape
 use Rattle.machine.specs.Shapes.{Shape, blank, shape_of}
@@ -30,19 +32,23 @@ use Rattle.machine.specs.Values.{code_number, moved_number}
 
 -- ---- numbers alone
 
--- a number of a function of the source; the entry function isn't one
+-- a function of the source; the entry function isn't one
+abbrev pub is_source_function : Code → ℕ → Bool
+is_source_function code f = nat_lt f (length code.functions) && not (nat_eq f code.entry)
+
+-- the function of the source that has this number
 abbrev pub function_at : Code → ℕ → Callee
 function_at code n =
     let f = n - code_number 0 in
-    if nat_le (code_number 0) n && nat_lt f code.entry then Reaches f else Refused Wild
+    if nat_le (code_number 0) n && is_source_function code f then Reaches f else Refused Wild
 
 abbrev pub callee_at : Code → ℤ → Callee
 callee_at code (pos n) = function_at code n
 callee_at code (negsuc n) = Refused Wild
 
 -- a pointer that both kinds keep stays as it is
-abbrev pub cast_number : Kind → Kind → ℤ → ℤ
-cast_number from to n = if is_kept from && is_kept to then n else cut to n
+abbrev pub cast_number : ScalarKind → ScalarKind → ℤ → ℤ
+cast_number from to n = if is_kept from && is_kept to then n else truncated to n
 
 abbrev pub plain : Domain
 plain = record {
@@ -53,7 +59,7 @@ plain = record {
   function = λ f. pos (code_number f);
   moved = λ n k. pos (moved_number n k);
   cast = cast_number;
-  loaded = cut;
+  loaded = truncated;
   callee = λ code type n. callee_at code n;
   told = λ n. None;
 }
@@ -160,7 +166,7 @@ module _ (D : Domain) (W : Words D) where
   plain_action code t top below (shape.Returns v) = plain_return t below
   plain_action code t top below shape.Enters = act.Alloc (slots_for (frame_units code top.function))
   plain_action code t top below shape.Leaves = act.Own
-  plain_action code t top below (shape.Gives d n) = give_action n
+  plain_action code t top below (shape.Allocates d n) = allocate_action n
   plain_action code t top below (shape.Frees p) = act.Own
   plain_action code t top below (shape.Forks d) = act.Fork
   plain_action code t top below (shape.StartsArgument n a) = write_action (start_word 65 n a)
@@ -169,7 +175,7 @@ module _ (D : Domain) (W : Words D) where
   plain_action code t top below (shape.Unlocks p) = act.Store (low p) (pos 0)
   plain_action code t top below (shape.Joins n) = plain_join n
   plain_action code t top below (shape.Prints n) = act.Print n
-  plain_action code t top below (shape.Reads d n) = act.Input n
+  plain_action code t top below (shape.TakesInput d n) = act.Input n
 
   -- ---- effects, once the action is answered and this value was found
 
@@ -187,9 +193,9 @@ module _ (D : Domain) (W : Words D) where
   drawn_by top (reply.Slot (Some s)) = Goes (top.place + 1) (ToObject s)
   drawn_by top _ = Stops Slots
 
-  abbrev pub given_by : ℤ → Reply → D.V
-  given_by n (reply.Slot (Some s)) = D.object (64 * s) (low_word n) s true
-  given_by n _ = blank D
+  abbrev pub allocated_by : ℤ → Reply → D.V
+  allocated_by n (reply.Slot (Some s)) = D.object (64 * s) (low_word n) s true
+  allocated_by n _ = blank D
 
   abbrev pub thread_by : Reply → D.V
   thread_by (reply.Thread (Some n)) = D.bare (pos n)
@@ -209,7 +215,7 @@ module _ (D : Domain) (W : Words D) where
   plain_effect code top below found answer (shape.Returns v) = returns_by below found v
   plain_effect code top below found answer shape.Enters = drawn_by top answer
   plain_effect code top below found answer shape.Leaves = goes_on D top
-  plain_effect code top below found answer (shape.Gives d n) = defines D top d (given_by n answer)
+  plain_effect code top below found answer (shape.Allocates d n) = defines D top d (allocated_by n answer)
   plain_effect code top below found answer (shape.Frees p) = goes_on D top
   plain_effect code top below found answer (shape.Forks d) = defines D top d (thread_by answer)
   plain_effect code top below found answer (shape.StartsArgument n a) = goes_on D top
@@ -218,7 +224,7 @@ module _ (D : Domain) (W : Words D) where
   plain_effect code top below found answer (shape.Unlocks p) = goes_on D top
   plain_effect code top below found answer (shape.Joins n) = if finds_zero answer then stays D top else goes_on D top
   plain_effect code top below found answer (shape.Prints n) = goes_on D top
-  plain_effect code top below found answer (shape.Reads d n) = defines D top d (D.bare (word_of answer))
+  plain_effect code top below found answer (shape.TakesInput d n) = defines D top d (D.bare (word_of answer))
 
   -- ---- turns
 
@@ -284,7 +290,8 @@ module _ (D : Domain) (W : Words D) where
 
   -- a lock that finds 0 sets 1
   abbrev pub locked : W.M → Action → W.M
-  locked memory (act.TryLock a) = if is_zero (D.number (W.at memory a)) then W.with memory a (D.bare (pos 1)) else memory
+  locked memory (act.TryLock a) =
+      if is_zero (D.number (W.at memory a)) then W.with memory a (D.bare (pos 1)) else memory
   locked memory _ = memory
 
   abbrev pub memory_after : Code → ℕ → Thread D.V → Action → W.M → W.M
@@ -386,4 +393,5 @@ plain_slots = 1048576
 
 abbrev pub plain_run : Code → List ℤ → List Event → List Step
 plain_run code inputs events =
-    plain_steps plain plain_words code inputs plain_slots (plain_opening plain plain_words code empty plain_threads) events
+    plain_steps plain plain_words code inputs plain_slots
+    (plain_opening plain plain_words code empty plain_threads) events

@@ -1,5 +1,5 @@
 -- The protected machine: what an instruction asks for, by its shape, and what it does once that is answered.
-use Rattle.std.specs.Prelude.{ℕ, ℤ, pos, negsuc, ◌+◌, ◌*◌, ◌/◌, ◌%◌, ◌^◌, Bool, true, false, ◌&&◌, if◌then◌else◌, nat_lt, nat_le, nat_eq, List, [], ◌∷◌, length, Option, Some, None, slice_get, slice_index_or}
+use Rattle.std.specs.Prelude.{ℕ, ℤ, pos, negsuc, ◌+◌, ◌*◌, ◌%◌, ◌^◌, Bool, true, false, ◌&&◌, if◌then◌else◌, nat_lt, nat_le, nat_eq, List, [], ◌∷◌, length, Option, Some, None, slice_get, slice_index_or}
 use Rattle.std.specs.Ordering.{int_eq}
 use Rattle.c_types.specs.declared.ty.FnTy.{FnTy}
 use Rattle.c_types.specs.declared.ty.Ty.TheVariants as ty
@@ -18,13 +18,14 @@ use Rattle.meaning.specs.declared.value.Value.{Value}
 use Rattle.meaning.specs.declared.value.Value.TheVariants.{Bare, Based, Code as CodeValue}
 use Rattle.sensitivity.specs.declared.class.Class.{Class}
 use Rattle.sensitivity.specs.declared.class.Class.TheVariants as class
+use Rattle.machine.specs.Addresses.{argument_address, done_address, slots_for, start_address}
 use Rattle.machine.specs.declared.code.Code.{Code}
 use Rattle.machine.specs.declared.code.CodeFunction.{CodeFunction}
 use Rattle.machine.specs.declared.code.CodePlace.{CodePlace}
-use Rattle.machine.specs.declared.code.Kind.{Kind}
+use Rattle.machine.specs.declared.code.ScalarKind.{ScalarKind}
 use Rattle.machine.specs.Domain.{Callee, Domain, Reaches, Refused}
 use Rattle.machine.specs.Frames.{Frame, Thread, Waiting, Starting, Running, Effect, Stops, Goes, Enters, Leaves, Write, Nothing, ToUnit, ToObject}
-use Rattle.machine.specs.Numbers.{cut, is_kept, is_zero, low_word}
+use Rattle.machine.specs.Numbers.{is_kept, is_zero, low_word, truncated}
 use Rattle.machine.specs.Shapes as shape
 use Rattle.machine.specs.Shapes.{Shape, object_of, shape_of}
 use Rattle.machine.specs.Threads.{Told, applied, begins, defines, frame_units, goes_on, has_room, place_at, sets, stays, stops}
@@ -57,23 +58,6 @@ protected = record {
   told = told_function;
 }
 
--- ---- addresses
-
--- the words with which thread n starts: the function and the argument
-abbrev pub start_address : ℕ → ℕ
-start_address n = 64 + 2 * n
-
-abbrev pub argument_address : ℕ → ℕ
-argument_address n = 65 + 2 * n
-
--- where thread n stores 1 as it ends
-abbrev pub done_address : ℕ → ℕ
-done_address n = 96 + n
-
--- the slots of so many units
-abbrev pub slots_for : ℕ → ℕ
-slots_for units = (units + 63) / 64
-
 -- ---- actions
 
 -- inside the bounds, the store is asked whether the object's id is ended
@@ -94,10 +78,10 @@ abbrev pub unless_unit : Option ℕ → Action → Action
 unless_unit None action = action
 unless_unit (Some unit) action = act.Own
 
-abbrev pub load_action : Kind → Value → Action
+abbrev pub load_action : ScalarKind → Value → Action
 load_action k p = if is_kept k then act.Get (address_of p) else act.Load (address_of p)
 
-abbrev pub store_action : Kind → Value → Value → Action
+abbrev pub store_action : ScalarKind → Value → Value → Action
 store_action k p a = if is_kept k then act.Put (address_of p) (entry_of a) else act.Store (address_of p) (number_of a)
 
 abbrev pub call_action : Code → List (Frame Value) → ℕ → Action
@@ -117,10 +101,10 @@ abbrev pub is_object_size : ℤ → Bool
 is_object_size (pos n) = nat_le 1 n && nat_le n 16384
 is_object_size (negsuc n) = false
 
-abbrev pub give_action : ℤ → Action
-give_action n = if is_object_size n then act.Alloc (slots_for (low_word n)) else act.Own
+abbrev pub allocate_action : ℤ → Action
+allocate_action n = if is_object_size n then act.Alloc (slots_for (low_word n)) else act.Own
 
--- ids below 1,026 are no object's that was given
+-- ids below 1,026 are no object's that was allocated
 abbrev pub free_action : Value → Action
 free_action (Bare n) = act.Own
 free_action (Based value lower upper id) =
@@ -158,7 +142,7 @@ action_of code t top below (shape.CallsThrough c arguments type through) =
 action_of code t top below (shape.Returns v) = return_action t below
 action_of code t top below shape.Enters = act.Alloc (slots_for (frame_units code top.function))
 action_of code t top below shape.Leaves = act.Free (object_of protected top)
-action_of code t top below (shape.Gives d n) = give_action n
+action_of code t top below (shape.Allocates d n) = allocate_action n
 action_of code t top below (shape.Frees p) = free_action p
 action_of code t top below (shape.Forks d) = act.Fork
 action_of code t top below (shape.StartsArgument n a) = start_action 65 n a
@@ -167,7 +151,7 @@ action_of code t top below (shape.Locks p) = act.TryLock (address_of p)
 action_of code t top below (shape.Unlocks p) = act.Store (address_of p) (pos 0)
 action_of code t top below (shape.Joins n) = join_action n
 action_of code t top below (shape.Prints n) = act.Print n
-action_of code t top below (shape.Reads d n) = act.Input n
+action_of code t top below (shape.TakesInput d n) = act.Input n
 
 -- ---- effects
 
@@ -181,8 +165,8 @@ unit_value top None = Bare (pos 0)
 unit_value top (Some unit) = slice_index_or top.units unit (Bare (pos 0))
 
 -- what a load gives: a word, an entry, or what a safe local's unit has
-abbrev pub load_value : Frame Value → Kind → Option ℕ → Reply → Value
-load_value top k unit (reply.Word w) = Bare (cut k w)
+abbrev pub load_value : Frame Value → ScalarKind → Option ℕ → Reply → Value
+load_value top k unit (reply.Word w) = Bare (truncated k w)
 load_value top k unit (reply.Found e) = loaded_entry e
 load_value top k unit _ = loaded_value k (unit_value top unit)
 
@@ -198,10 +182,10 @@ abbrev pub drawn : Frame Value → Reply → Effect Value
 drawn top (reply.Slot (Some s)) = Goes (top.place + 1) (ToObject s)
 drawn top _ = Stops Slots
 
--- the object that was given, or the null pointer
-abbrev pub given : ℤ → Reply → Value
-given n (reply.Slot (Some s)) = object_address (64 * s) (low_word n) s true
-given n _ = Bare (pos 0)
+-- the object that was allocated, or the null pointer
+abbrev pub allocated : ℤ → Reply → Value
+allocated n (reply.Slot (Some s)) = object_address (64 * s) (low_word n) s true
+allocated n _ = Bare (pos 0)
 
 abbrev pub new_thread : Reply → Value
 new_thread (reply.Thread (Some n)) = Bare (pos n)
@@ -231,7 +215,7 @@ effect_of code top answer (shape.CallsThrough c arguments type through) =
 effect_of code top answer (shape.Returns v) = Leaves v
 effect_of code top answer shape.Enters = drawn top answer
 effect_of code top answer shape.Leaves = goes_on protected top
-effect_of code top answer (shape.Gives d n) = defines protected top d (given n answer)
+effect_of code top answer (shape.Allocates d n) = defines protected top d (allocated n answer)
 effect_of code top answer (shape.Frees p) = unless_no top (Failed BadFree) answer
 effect_of code top answer (shape.Forks d) = defines protected top d (new_thread answer)
 effect_of code top answer (shape.StartsArgument n a) = goes_on protected top
@@ -240,7 +224,7 @@ effect_of code top answer (shape.Locks p) = if finds_zero answer then goes_on pr
 effect_of code top answer (shape.Unlocks p) = goes_on protected top
 effect_of code top answer (shape.Joins n) = if finds_zero answer then stays protected top else goes_on protected top
 effect_of code top answer (shape.Prints n) = goes_on protected top
-effect_of code top answer (shape.Reads d n) = defines protected top d (Bare (word_of answer))
+effect_of code top answer (shape.TakesInput d n) = defines protected top d (Bare (word_of answer))
 
 -- ---- turns of a thread
 

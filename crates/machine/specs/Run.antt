@@ -22,7 +22,7 @@ pub record Site : Type 0 where
 
 -- what one event did
 pub data Step : Type 0 where
-  -- a turn of a thread, which stood there or, at None, hadn't begun
+  -- a turn of a thread, which stood there or, at None, had no frame yet
   Turned : (thread : ℕ) (site : Option Site) (action : Action) (reply : Reply) (notes : List Note) → Step
   -- a corruption
   Wrote : (address : ℕ) (word : ℤ) → Step

@@ -7,7 +7,7 @@ use Rattle.meaning.specs.declared.note.Place.TheVariants.{At, Slot as InSlot}
 use Rattle.sensitivity.specs.declared.class.Class.{Class}
 use Rattle.machine.specs.declared.code.CodePlace.{CodePlace}
 use Rattle.machine.specs.declared.code.CodePlace.TheVariants.{Const, AddrG, AddrL, AddrF, GetLocal, SetLocal, Binary, Unary, PtrAdd, PtrConst, Cast, Touch, Load, Store, Jump, Branch, Call, CallInd, Return, Enter, Leave, Malloc, Free, Fork, StartArg, StartFn, Lock, Unlock, Join, Print, Input}
-use Rattle.machine.specs.declared.code.Kind.{Kind}
+use Rattle.machine.specs.declared.code.ScalarKind.{ScalarKind}
 use Rattle.machine.specs.declared.code.Origin.{Origin}
 use Rattle.machine.specs.declared.code.Origin.TheVariants as origin
 use Rattle.machine.specs.Domain.{Domain}
@@ -24,8 +24,8 @@ pub data Shape (V : Type 0) : Type 0 where
   -- by zero
   Divides : Shape V
   Touches : (p : V) (class : Class) (marked : Bool) → Shape V
-  Loads : (d : ℕ) (p : V) (kind : Kind) (unit : Option ℕ) → Shape V
-  Stores : (p a : V) (kind : Kind) (unit : Option ℕ) → Shape V
+  Loads : (d : ℕ) (p : V) (kind : ScalarKind) (unit : Option ℕ) → Shape V
+  Stores : (p a : V) (kind : ScalarKind) (unit : Option ℕ) → Shape V
   Calls : (f : ℕ) (arguments : List V) → Shape V
   -- through a pointer to a function of this type, which was read there
   CallsThrough : (c : V) (arguments : List V) (type : FnTy) (through : Place) → Shape V
@@ -33,7 +33,7 @@ pub data Shape (V : Type 0) : Type 0 where
   Enters : Shape V
   Leaves : Shape V
   -- register d has an object of so many units
-  Gives : (d : ℕ) (units : ℤ) → Shape V
+  Allocates : (d : ℕ) (units : ℤ) → Shape V
   Frees : (p : V) → Shape V
   Forks : (d : ℕ) → Shape V
   -- what thread n starts with: the argument, and the function
@@ -44,7 +44,7 @@ pub data Shape (V : Type 0) : Type 0 where
   Joins : (n : ℤ) → Shape V
   Prints : (n : ℤ) → Shape V
   -- register d has input n
-  Reads : (d : ℕ) (n : ℤ) → Shape V
+  TakesInput : (d : ℕ) (n : ℤ) → Shape V
 
 module _ (D : Domain) where
   -- no number was written there: 0
@@ -107,7 +107,7 @@ module _ (D : Domain) where
   shape_of depth f (Return a) = Returns (result_in f a)
   shape_of depth f Enter = Enters
   shape_of depth f Leave = Leaves
-  shape_of depth f (Malloc d a) = Gives d (number_in f a)
+  shape_of depth f (Malloc d a) = Allocates d (number_in f a)
   shape_of depth f (Free p) = Frees (register f p)
   shape_of depth f (Fork d) = Forks d
   shape_of depth f (StartArg t a) = StartsArgument (number_in f t) (register f a)
@@ -116,4 +116,4 @@ module _ (D : Domain) where
   shape_of depth f (Unlock p) = Unlocks (register f p)
   shape_of depth f (Join t) = Joins (number_in f t)
   shape_of depth f (Print a) = Prints (number_in f a)
-  shape_of depth f (Input d a) = Reads d (number_in f a)
+  shape_of depth f (Input d a) = TakesInput d (number_in f a)

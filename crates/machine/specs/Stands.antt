@@ -70,7 +70,9 @@ IsOriginOf code k _ o = Unit {0}
 -- ---- places, functions, code
 
 -- the code at place k of a function
-pub record PlaceStands (program : Program) (class : Ty → Class) (f : Function) (c : CodeFunction) (k : ℕ) (i : Instr) (place : CodePlace) : Type 0 where
+pub record PlaceStands
+    (program : Program) (class : Ty → Class) (f : Function) (c : CodeFunction) (k : ℕ) (i : Instr) (place : CodePlace)
+    : Type 0 where
   pub unit : Option ℕ
   pub origin : Origin
   pub is_unit : IsUnitOf (map outline_of f.body) c.locals k (accessed (outline_of i).role) unit

@@ -63,7 +63,8 @@ abbrev pub stored : ℕ → Store → Action → Store
 stored threads store (act.Put a e) = record store { entries = insert store.entries a e }
 stored threads store (act.Alloc k) = record store { next = drawn_to store.next k }
 stored threads store (act.Free id) = record store { ended = id ∷ store.ended }
-stored threads store act.Fork = record store { count = if nat_eq store.count threads then store.count else store.count + 1 }
+stored threads store act.Fork =
+    record store { count = if nat_eq store.count threads then store.count else store.count + 1 }
 stored threads store _ = store
 
 -- and of ordinary memory: a lock that finds 0 sets 1

@@ -1,10 +1,11 @@
 -- What calls open, and what the effect of an answered instruction does to its thread and tells of it.
-use Rattle.std.specs.Prelude.{ℕ, suc, ◌+◌, ◌-◌, ◌*◌, Bool, ◌&&◌, nat_lt, nat_le, List, [], ◌∷◌, ◌++◌, length, replicate, take, Option, Some, None, slice_get, slice_set}
+use Rattle.std.specs.Prelude.{ℕ, suc, ◌+◌, ◌-◌, Bool, ◌&&◌, nat_lt, nat_le, List, [], ◌∷◌, ◌++◌, length, replicate, take, Option, Some, None, slice_get, slice_set}
 use Rattle.c_types.specs.declared.ty.FnTy.{out-FnTy}
 use Rattle.meaning.specs.declared.note.Note.{Note}
 use Rattle.meaning.specs.declared.note.Note.TheVariants as note
 use Rattle.meaning.specs.declared.note.Place.{Place}
 use Rattle.meaning.specs.declared.value.Stop.{Stop}
+use Rattle.machine.specs.Addresses.{start_address}
 use Rattle.machine.specs.declared.code.Code.{Code}
 use Rattle.machine.specs.declared.code.CodeFunction.{CodeFunction}
 use Rattle.machine.specs.declared.code.CodePlace.{CodePlace}
@@ -168,7 +169,7 @@ module _ (D : Domain) where
   abbrev pub begins : Code → ℕ → ℕ → D.V → Told D.V
   begins code t f argument =
       let new = opened code f (argument ∷ []) in
-      record { thread = Running new []; notes = note.Start f (64 + 2 * t) ∷ slots_told 0 0 new.slots }
+      record { thread = Running new []; notes = note.Start f (start_address t) ∷ slots_told 0 0 new.slots }
 
   -- ---- effects by name
 

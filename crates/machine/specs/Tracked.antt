@@ -1,6 +1,7 @@
--- Numbers with shadows: of which object or function each number of the unprotected machine is, and whether protection keeps
+-- Numbers with shadows: of which object or function each number of the unprotected machine is, and whether
+-- protection keeps
 -- that.
-use Rattle.std.specs.Prelude.{ℕ, ℤ, pos, negsuc, ◌+◌, ◌*◌, Bool, true, false, not, ◌&&◌, ◌||◌, if◌then◌else◌, nat_eq, nat_le, nat_lt, List, [], ◌∷◌, ◌++◌, map, Option, Some, None, slice_get}
+use Rattle.std.specs.Prelude.{ℕ, ℤ, pos, negsuc, ◌+◌, ◌*◌, ◌%◌, ◌^◌, Bool, true, false, not, ◌&&◌, ◌||◌, if◌then◌else◌, nat_eq, nat_le, nat_lt, List, [], ◌∷◌, ◌++◌, map, Option, Some, None, slice_get}
 use Rattle.std.specs.List.{list_any}
 use Rattle.std.specs.Ordering.{int_eq}
 use Rattle.c_types.specs.declared.ty.FnTy.{FnTy}
@@ -12,15 +13,16 @@ use Rattle.meaning.specs.declared.event.Event.{Event}
 use Rattle.meaning.specs.declared.event.Event.TheVariants.{Turn}
 use Rattle.sensitivity.specs.declared.class.Class.{Class}
 use Rattle.sensitivity.specs.declared.class.Class.TheVariants as class
+use Rattle.machine.specs.Addresses.{argument_address, done_address, start_address}
 use Rattle.machine.specs.declared.code.Code.{Code}
 use Rattle.machine.specs.declared.code.CodeFunction.{CodeFunction}
-use Rattle.machine.specs.declared.code.Kind.{Kind}
-use Rattle.machine.specs.declared.code.Kind.TheVariants as kind
+use Rattle.machine.specs.declared.code.ScalarKind.{ScalarKind}
+use Rattle.machine.specs.declared.code.ScalarKind.TheVariants as kind
 use Rattle.machine.specs.Domain.{Domain}
 use Rattle.machine.specs.Frames.{Frame, Thread, Waiting, Starting, Running}
-use Rattle.machine.specs.Numbers.{cut, is_kept, low_word}
+use Rattle.machine.specs.Numbers.{is_kept, low_word, truncated}
 use Rattle.machine.specs.Plain.{PlainState, Words, callee_at, cast_number, plain_happens, plain_opening, plain_shape, plain_slots, plain_threads}
-use Rattle.machine.specs.Protected.{argument_address, done_address, is_no_thread, is_thread_number, start_address}
+use Rattle.machine.specs.Protected.{is_no_thread, is_thread_number}
 use Rattle.machine.specs.Run.{Step, Turned}
 use Rattle.machine.specs.Shapes as shape
 use Rattle.machine.specs.Shapes.{Shape}
@@ -47,19 +49,19 @@ unkept Nothing = Nothing
 unkept (Object lower upper id kept) = Object lower upper id false
 unkept (Function f kept) = Function f false
 
-abbrev pub is_integer_kind : Kind → Bool
+abbrev pub is_integer_kind : ScalarKind → Bool
 is_integer_kind kind.Int = true
 is_integer_kind kind.Char = true
 is_integer_kind _ = false
 
-abbrev pub pointer_shadow : Kind → Shadow → Shadow
+abbrev pub pointer_shadow : ScalarKind → Shadow → Shadow
 pointer_shadow to s = if is_kept to then s else unkept s
 
 -- integers have no shadow; a pointer that is made of a pointer has that one's
-abbrev pub cast_shadow : Kind → Kind → Shadow → Shadow
+abbrev pub cast_shadow : ScalarKind → ScalarKind → Shadow → Shadow
 cast_shadow from to s = if is_integer_kind from || is_integer_kind to then Nothing else pointer_shadow to s
 
-abbrev pub loaded_shadow : Kind → Shadow → Shadow
+abbrev pub loaded_shadow : ScalarKind → Shadow → Shadow
 loaded_shadow k s = if is_integer_kind k then Nothing else s
 
 -- an object's address stays one of it; a function's only where the number stays
@@ -80,7 +82,7 @@ tracked = record {
   function = λ f. record { number = pos (code_number f); shadow = Function f true };
   moved = moved_tracked;
   cast = λ from to v. record { number = cast_number from to v.number; shadow = cast_shadow from to v.shadow };
-  loaded = λ k v. record { number = cut k v.number; shadow = loaded_shadow k v.shadow };
+  loaded = λ k v. record { number = truncated k v.number; shadow = loaded_shadow k v.shadow };
   callee = λ code type v. callee_at code v.number;
   told = λ v. None;
 }
@@ -97,12 +99,12 @@ tracked_words = record { M = ℕ → Tracked; at = λ memory a. memory a; with =
 abbrev pub no_words : ℕ → Tracked
 no_words a = tracked_number (pos 0)
 
--- ---- what a run has given and lost
+-- ---- what a run has allocated and lost
 
 pub record TrackedState : Type 0 where
   pub state : PlainState Tracked (ℕ → Tracked)
-  -- the ids of objects that were given
-  pub given : List ℕ
+  -- the ids of objects that were allocated
+  pub allocated : List ℕ
   -- those of objects that were freed, and of frames that were left
   pub dead : List ℕ
 
@@ -134,22 +136,22 @@ abbrev pub calls_safely : Code → FnTy → Shadow → Bool
 calls_safely code type (Function f kept) = kept && has_type code type (slice_get code.functions f)
 calls_safely code type _ = false
 
-abbrev pub is_start_of_given : List ℕ → List ℕ → ℤ → ℕ → ℕ → Bool
-is_start_of_given given dead n lower id =
-    int_eq n (pos lower) && list_any (nat_eq id) given && not (is_dead dead id)
+abbrev pub is_start_of_allocated : List ℕ → List ℕ → ℤ → ℕ → ℕ → Bool
+is_start_of_allocated allocated dead n lower id =
+    int_eq n (pos lower) && list_any (nat_eq id) allocated && not (is_dead dead id)
 
--- of 0 that is nothing's address, or of the first unit of a given object that is alive
+-- of 0 that is nothing's address, or of the first unit of a allocated object that is alive
 abbrev pub frees_safely : List ℕ → List ℕ → ℤ → Shadow → Bool
-frees_safely given dead n Nothing = int_eq n (pos 0)
-frees_safely given dead n (Object lower upper id kept) = is_start_of_given given dead n lower id
-frees_safely given dead n (Function f kept) = false
+frees_safely allocated dead n Nothing = int_eq n (pos 0)
+frees_safely allocated dead n (Object lower upper id kept) = is_start_of_allocated allocated dead n lower id
+frees_safely allocated dead n (Function f kept) = false
 
 abbrev pub is_safe_shape : Code → List ℕ → List ℕ → Shape Tracked → Bool
-is_safe_shape code given dead (shape.Touches p c marked) = touches_safely dead c p.number p.shadow
-is_safe_shape code given dead (shape.CallsThrough c arguments type through) = calls_safely code type c.shadow
-is_safe_shape code given dead (shape.StartsFunction n f) = is_no_thread n || calls_safely code start_type f.shadow
-is_safe_shape code given dead (shape.Frees p) = frees_safely given dead p.number p.shadow
-is_safe_shape code given dead _ = true
+is_safe_shape code allocated dead (shape.Touches p c marked) = touches_safely dead c p.number p.shadow
+is_safe_shape code allocated dead (shape.CallsThrough c arguments type through) = calls_safely code type c.shadow
+is_safe_shape code allocated dead (shape.StartsFunction n f) = is_no_thread n || calls_safely code start_type f.shadow
+is_safe_shape code allocated dead (shape.Frees p) = frees_safely allocated dead p.number p.shadow
+is_safe_shape code allocated dead _ = true
 
 -- ---- accesses: an address, and whether the access's type stands in the safe store
 
@@ -157,7 +159,7 @@ abbrev pub Access : Type 0
 Access = ℕ × Bool
 
 abbrev pub start_access : ℕ → ℤ → List Access
-start_access first n = if is_no_thread n then [] else ((first + 2 * low_word n), true) ∷ []
+start_access first n = if is_no_thread n then [] else ((first + 2 * low_word n) % 2 ^ 32, true) ∷ []
 
 abbrev pub done_access : ℕ → List (Frame Tracked) → List Access
 done_access t [] = (done_address t, false) ∷ []
@@ -184,12 +186,12 @@ shape_in code (Running top below) = plain_shape tracked tracked_words code top b
 shape_in code thread = None
 
 abbrev pub is_safe_by : Code → List ℕ → List ℕ → Option (Shape Tracked) → Bool
-is_safe_by code given dead None = true
-is_safe_by code given dead (Some s) = is_safe_shape code given dead s
+is_safe_by code allocated dead None = true
+is_safe_by code allocated dead (Some s) = is_safe_shape code allocated dead s
 
 abbrev pub is_safe_in : Code → TrackedState → Option (Thread Tracked) → Bool
 is_safe_in code s None = true
-is_safe_in code s (Some thread) = is_safe_by code s.given s.dead (shape_in code thread)
+is_safe_in code s (Some thread) = is_safe_by code s.allocated s.dead (shape_in code thread)
 
 -- a turn of thread t is safe
 abbrev pub is_safe_turn : Code → TrackedState → ℕ → Bool
@@ -216,9 +218,9 @@ accesses_of code s t = accesses_in code t (slice_get s.state.threads t)
 
 -- ---- runs
 
-abbrev pub given_by_step : Option (Shape Tracked) → Step → List ℕ
-given_by_step (Some (shape.Gives d n)) (Turned t site action (reply.Slot (Some id)) notes) = id ∷ []
-given_by_step _ step = []
+abbrev pub allocated_by_step : Option (Shape Tracked) → Step → List ℕ
+allocated_by_step (Some (shape.Allocates d n)) (Turned t site action (reply.Slot (Some id)) notes) = id ∷ []
+allocated_by_step _ step = []
 
 abbrev pub freed : Shadow → List ℕ
 freed (Object lower upper id kept) = id ∷ []
@@ -254,7 +256,7 @@ tracked_turn code inputs s t =
       step = move.step;
       after = record {
         state = move.after;
-        given = given_by_step (shape_of_thread code thread) move.step ++ s.given;
+        allocated = allocated_by_step (shape_of_thread code thread) move.step ++ s.allocated;
         dead = ended_in code thread ++ s.dead;
       };
     }
@@ -262,7 +264,7 @@ tracked_turn code inputs s t =
 abbrev pub tracked_opening : Code → TrackedState
 tracked_opening code = record {
   state = plain_opening tracked tracked_words code no_words plain_threads;
-  given = [];
+  allocated = [];
   dead = [];
 }
 

@@ -1,8 +1,10 @@
--- Good transfers: each call through a pointer goes to the function that was last stored where its pointer was read, each
+-- Good transfers: each call through a pointer goes to the function that was last stored where its pointer was
+-- read, each
 -- start to the one that was found, and each return goes behind its call.
-use Rattle.std.specs.Prelude.{◌≡◌, ◌≢◌, ◌⊎◌, ℕ, zero, suc, ◌+◌, ◌*◌, ◌≤◌, if◌then◌else◌, nat_eq, List, [], ◌∷◌, ◌++◌, length, map, Option, Some, None, Contains, slice_get}
+use Rattle.std.specs.Prelude.{◌≡◌, ◌≢◌, ◌⊎◌, ℕ, zero, suc, ◌+◌, ◌≤◌, if◌then◌else◌, nat_eq, List, [], ◌∷◌, ◌++◌, length, map, Option, Some, None, Contains, slice_get}
 use Rattle.std.specs.List.{All}
-use Rattle.core_ir.specs.Flow.{Chain}
+use Rattle.core_ir.specs.declared.role.Role.TheVariants as role
+use Rattle.core_ir.specs.Flow.{Chain, HasRole}
 use Rattle.core_ir.specs.Outline.{Outline}
 use Rattle.meaning.specs.declared.action.Action.{Action}
 use Rattle.meaning.specs.declared.action.Action.TheVariants as act
@@ -14,6 +16,7 @@ use Rattle.meaning.specs.declared.note.Place.{Place}
 use Rattle.meaning.specs.declared.note.Place.TheVariants.{At, Slot}
 use Rattle.meaning.specs.declared.value.Entry.TheVariants as entry
 use Rattle.meaning.specs.declared.value.Stop.TheVariants.{Budget}
+use Rattle.machine.specs.Addresses.{start_address}
 use Rattle.machine.specs.declared.code.Code.{Code}
 use Rattle.machine.specs.declared.code.CodePlace.{CodePlace}
 use Rattle.machine.specs.declared.code.CodePlace.TheVariants.{Load, GetLocal}
@@ -79,7 +82,8 @@ last_own a (n ∷ ns) = or_later (last_own a ns) (own_note a n)
 abbrev pub TellsNoSlot : ℕ → ℕ → ℕ → Step → Type 0
 TellsNoSlot t d s step = IsInside t d step × (last_slot d s (told_by t step) ≡ None)
 
--- The last that was told of slot s of thread t's frame at depth d is function f, behind the opening of that frame; the call
+-- The last that was told of slot s of thread t's frame at depth d is function f, behind the opening of that
+-- frame; the call
 -- that opens it tells its arguments itself.
 pub record IsSlotTold (before : List Step) (t d s f : ℕ) : Type 0 where
   pub earlier : List Step
@@ -103,7 +107,8 @@ IsAtDepth t d _ = ⊥
 abbrev pub TellsNoOwn : ℕ → ℕ → ℕ → Step → Type 0
 TellsNoOwn t d a step = IsInside t d step × (last_own a (all_told step) ≡ None)
 
--- The last that was told of the unit at address a, by any thread, is function f, in the activation of thread t at depth d.
+-- The last that was told of the unit at address a, by any thread, is function f, in the activation of thread t
+-- at depth d.
 pub record IsOwnTold (before : List Step) (t d a f : ℕ) : Type 0 where
   pub earlier : List Step
   pub step : Step
@@ -115,7 +120,8 @@ pub record IsOwnTold (before : List Step) (t d a f : ℕ) : Type 0 where
 
 -- ---- reads
 
--- the last step at the first instruction of a call's chain, in the activation of the call, got function f from address a
+-- the last step at the first instruction of a call's chain, in the activation of the call, got function f from
+-- address a
 pub record IsGot (before : List Step) (t : ℕ) (site : Site) (q f a : ℕ) : Type 0 where
   pub earlier : List Step
   pub at : Option Site
@@ -144,7 +150,7 @@ IsReadBy (Some (GetLocal d r)) before t site q f (Slot depth s) =
     (depth ≡ site.depth) × (r ≡ s) × IsKeptInSlot before t site q f s
 IsReadBy _ before t site q f place = ⊥
 
--- the register that an indirect call at a site calls
+-- what control flow sees of function f
 abbrev pub outlines_at : Code → ℕ → List Outline
 outlines_at code f = map outline_of_code (body_in (slice_get code.functions f))
 
@@ -152,6 +158,7 @@ outlines_at code f = map outline_of_code (body_in (slice_get code.functions f))
 pub record IsRead (code : Code) (before : List Step) (t : ℕ) (site : Site) (f : ℕ) (place : Place) : Type 0 where
   pub register : ℕ
   pub first : ℕ
+  pub called : HasRole (outlines_at code site.function) 0 site.place (role.Indirect register)
   pub chain : Chain (outlines_at code site.function) 0 site.place register first
   pub read : IsReadBy (place_at code site.function first) before t site first f place
 
@@ -227,7 +234,8 @@ opened_first code (suc t) = []
 
 -- ---- places
 
--- Each transfer stands at the place that it says: a call at the step's own place, one deeper, and the thread's next step in
+-- Each transfer stands at the place that it says: a call at the step's own place, one deeper, and the thread's
+-- next step in
 -- the new frame at its first place; a return at the place that it goes to.
 abbrev pub StandsAt : Option Site → Note → Type 0
 StandsAt (Some site) (note.Call depth f from) = (from ≡ site.place) × (depth ≡ suc site.depth)
@@ -268,11 +276,12 @@ pub record GoodTransfers (code : Code) (steps : List Step) : Type 0 where
       (f a : ℕ)
       → steps ≡ before ++ Turned t at action answer notes ∷ after
       → Contains notes (note.Start f a)
-      → (a ≡ 64 + 2 * t) × IsFound before t a f
+      → (a ≡ start_address t) × IsFound before t a f
   pub bracketed : (t : ℕ) → AreBracketed (opened_first code t) (notes_of t steps)
   -- what a step tells of transfers is true of where it stands
   pub places :
-      (before after : List Step) (t : ℕ) (at : Option Site) (action : Action) (answer : Reply) (notes : List Note) (n : Note)
+      (before after : List Step) (t : ℕ) (at : Option Site) (action : Action) (answer : Reply) (notes : List Note)
+      (n : Note)
       → steps ≡ before ++ Turned t at action answer notes ∷ after
       → Contains notes n
       → StandsAt at n
@@ -280,7 +289,9 @@ pub record GoodTransfers (code : Code) (steps : List Step) : Type 0 where
   pub arrivals :
       (before between after : List Step) (t : ℕ) (at next : Option Site) (action action_next : Action)
       (answer answer_next : Reply) (notes notes_next : List Note) (n : Note) (site : Site)
-      → steps ≡ before ++ Turned t at action answer notes ∷ between ++ Turned t next action_next answer_next notes_next ∷ after
+      → steps
+      ≡ before ++ Turned t at action answer notes ∷ between
+      ++ Turned t next action_next answer_next notes_next ∷ after
       → All (IsOthers t) between
       → Contains notes n
       → leads_to n ≡ Some site

@@ -11,7 +11,7 @@ use Rattle.machine.specs.declared.code.CodeFunction.{CodeFunction}
 use Rattle.machine.specs.declared.code.CodeLocal.{CodeLocal}
 use Rattle.machine.specs.declared.code.CodePlace.{CodePlace}
 use Rattle.machine.specs.declared.code.CodePlace.TheVariants.{AddrG, AddrL, AddrF, Binary, Unary, Touch, Load, Store, Call, CallInd}
-use Rattle.machine.specs.declared.code.Kind.{Kind}
+use Rattle.machine.specs.declared.code.ScalarKind.{ScalarKind}
 use Rattle.machine.specs.Numbers.{is_kept}
 use Rattle.machine.specs.Outlines.{outline_of_code}
 use Rattle.machine.specs.Stands.{IsOriginOf, IsUnit, IsUnitOf, safe_units}
@@ -67,7 +67,7 @@ CodeFits code f _ = Unit {0}
 -- ---- accesses
 
 -- the kind of an access's value
-abbrev pub access_kind : CodePlace → Option Kind
+abbrev pub access_kind : CodePlace → Option ScalarKind
 access_kind (Load d p kind unit) = Some kind
 access_kind (Store p a kind unit) = Some kind
 access_kind _ = None
@@ -79,7 +79,7 @@ IsSensitiveTouch _ = ⊥
 -- what goes to or comes from the safe store stands behind a touch of class Sensitive
 abbrev pub TouchesAreSensitive : List CodePlace → Type 0
 TouchesAreSensitive body =
-    (k : ℕ) (touch access : CodePlace) (kind : Kind)
+    (k : ℕ) (touch access : CodePlace) (kind : ScalarKind)
     → slice_get body k ≡ Some touch
     → slice_get body (suc k) ≡ Some access
     → access_kind access ≡ Some kind

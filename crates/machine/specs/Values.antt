@@ -4,8 +4,8 @@ use Rattle.meaning.specs.declared.value.Entry.{Entry}
 use Rattle.meaning.specs.declared.value.Entry.TheVariants as entry
 use Rattle.meaning.specs.declared.value.Value.{Value}
 use Rattle.meaning.specs.declared.value.Value.TheVariants.{Bare, Based, Code}
-use Rattle.machine.specs.declared.code.Kind.{Kind}
-use Rattle.machine.specs.Numbers.{cut, is_kept, low_word}
+use Rattle.machine.specs.declared.code.ScalarKind.{ScalarKind}
+use Rattle.machine.specs.Numbers.{is_kept, low_word, truncated}
 
 -- the number of function f as a word
 abbrev pub code_number : ℕ → ℕ
@@ -57,12 +57,12 @@ moved_value (Code f) k =
     else Bare (pos (moved_number (pos (code_number f)) k))
 
 -- a value that both kinds keep stays; each other conversion gives a number
-abbrev pub cast_value : Kind → Kind → Value → Value
-cast_value from to v = if is_kept from && is_kept to then v else Bare (cut to (number_of v))
+abbrev pub cast_value : ScalarKind → ScalarKind → Value → Value
+cast_value from to v = if is_kept from && is_kept to then v else Bare (truncated to (number_of v))
 
 -- what a load of this kind gives of a value
-abbrev pub loaded_value : Kind → Value → Value
-loaded_value k v = if is_kept k then v else Bare (cut k (number_of v))
+abbrev pub loaded_value : ScalarKind → Value → Value
+loaded_value k v = if is_kept k then v else Bare (truncated k (number_of v))
 
 -- the function that a record names where this value is written to a safe place
 abbrev pub told_function : Value → Option ℕ

@@ -7,7 +7,7 @@ use sqlite_items::Items;
 
 /// What a type is to loads, stores and conversions.
 #[derive(Clone, Copy, Debug, PartialEq, Eq)]
-pub enum Kind {
+pub enum ScalarKind {
     /// `int`, and what is no scalar.
     Int,
     Char,
@@ -89,8 +89,8 @@ pub enum CodePlace {
     Cast {
         d: u32,
         a: u32,
-        from: Kind,
-        to: Kind,
+        from: ScalarKind,
+        to: ScalarKind,
     },
     /// The class is that of a pointer to the touch's type. A marked one touches a safe local.
     Touch {
@@ -102,14 +102,14 @@ pub enum CodePlace {
     Load {
         d: u32,
         p: u32,
-        kind: Kind,
+        kind: ScalarKind,
         unit: Option<u32>,
     },
     /// With the unit, where it is one of a safe local.
     Store {
         p: u32,
         a: u32,
-        kind: Kind,
+        kind: ScalarKind,
         unit: Option<u32>,
     },
     Jump {

@@ -4,5 +4,6 @@
 mod code;
 
 pub use code::{
-    Code, CodeFunction, CodeFunctionList, CodeLocal, CodeLocalList, CodePlace, CodePlaceList, Kind, Origin,
+    Code, CodeFunction, CodeFunctionList, CodeLocal, CodeLocalList, CodePlace, CodePlaceList,
+    Origin, ScalarKind,
 };

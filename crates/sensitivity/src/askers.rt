@@ -28,7 +28,8 @@ impl Askers {
     /// Struct `s` asks for `n`. Structs that no table has are left out.
     pub(crate) fn add(&mut self, n: u32, s: u32) -> Result<(), AllocError>
         ensures many { OnOk result (length self.new.lists.items ≡ length self.old.lists.items) }
-        ensures added { OnOk result (n < length self.old.lists.items → Includes self.new.lists.items n s) }
+        ensures added { OnOk result (n < length self.old.lists.items
+            → Includes self.new.lists.items n s) }
         ensures kept { OnOk result ((m t : ℕ) → Includes self.old.lists.items m t
             → Includes self.new.lists.items m t) }
         ensures others { OnOk result ((m t : ℕ) → Includes self.new.lists.items m t

@@ -44,8 +44,10 @@ impl ClassTable {
 
     /// Whether a type holds code pointers.
     fn holds(&self, ty: &Ty) -> bool
-        ensures yes { IsTrue result → (defs : List StructDef) → AreClasses defs self.now → Holds defs ty.now }
-        ensures no { result ≡ false → (defs : List StructDef) → AreClasses defs self.now → Holds defs ty.now → ⊥ }
+        ensures yes { IsTrue result → (defs : List StructDef) → AreClasses defs self.now
+            → Holds defs ty.now }
+        ensures no { result ≡ false → (defs : List StructDef) → AreClasses defs self.now
+            → Holds defs ty.now → ⊥ }
     {
         match holding_of(self.of_structs.as_slice(), ty) {
             Holding::Always => true,
@@ -54,8 +56,8 @@ impl ClassTable {
         }
     }
 
-    /// The class of a pointer.
-    fn class_of_pointer(&self, target: &Ty) -> Class
+    /// The class of a pointer to a type. It takes time that grows with the parts of the type.
+    pub fn class_of_pointer(&self, target: &Ty) -> Class
         ensures { (defs : List StructDef) → AreClasses defs self.now
             → HasClass defs (Ty.Pointer target.now) result }
     {

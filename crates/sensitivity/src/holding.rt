@@ -52,7 +52,8 @@ fn is_universal(class: Class) -> bool
 /// Whether it is `void`, `char`, a struct without a body, or an array of such.
 #[tactic(auto, unfolding(crate::specs::Holds::is_open))]
 pub(crate) fn is_open(of_structs: &[Class], ty: &Ty) -> bool
-    ensures { result ≡ holds.is_open (λ s. is_universal_class (spec.class_at of_structs.now s)) ty.now }
+    ensures { result
+        ≡ holds.is_open (λ s. is_universal_class (spec.class_at of_structs.now s)) ty.now }
 {
     match ty {
         Ty::Void | Ty::Char => true,
@@ -64,7 +65,8 @@ pub(crate) fn is_open(of_structs: &[Class], ty: &Ty) -> bool
 
 /// What the question comes to, if the table tells which structs have a body.
 pub(crate) fn holding_of(of_structs: &[Class], ty: &Ty) -> Holding
-    ensures { (defs : List StructDef) → TellsBodies defs of_structs.now → IsHolding defs ty.now result }
+    ensures { (defs : List StructDef) → TellsBodies defs of_structs.now
+        → IsHolding defs ty.now result }
 {
     match ty {
         Ty::Struct(s) => Holding::AsStruct(*s),

@@ -10,8 +10,8 @@ use c_types::StructDef;
 use sqlite_items::Items;
 use std::alloc::{AllocError, Global};
 
-/// The class of a pointer to each struct, `Regular` until the struct is known to hold code pointers, and
-/// the structs of which it is known, in the order in which they were found.
+/// The class of a pointer to each struct, `Regular` until the struct is known to hold code
+/// pointers, and the structs of which it is known, in the order in which they were found.
 #[derive(Drop)]
 pub(crate) struct Marks {
     pub(crate) of_structs: Items<Class>,
@@ -28,7 +28,8 @@ fn first_class_of(def: &StructDef) -> Class
     }
 }
 
-/// Whether it is the class of a pointer to a struct with a body that isn't known to hold code pointers.
+/// Whether it is the class of a pointer to a struct with a body that isn't known to hold code
+/// pointers.
 fn is_regular(class: Class) -> bool
     ensures { result ≡ is_regular_class class }
 {
@@ -58,7 +59,8 @@ impl Marks {
 
     /// Marks a struct that has a body and holds code pointers.
     pub(crate) fn mark(&mut self, s: u32) -> Result<(), AllocError>
-        ensures marked { OnOk result ((defs : List StructDef) → AreMarked defs self.old → CanMark defs s
+        ensures marked { OnOk result ((defs : List StructDef) → AreMarked defs self.old
+            → CanMark defs s
             → AreMarked defs self.new × IsMarked self.new s) }
         ensures extends { OnOk result (Extends self.old self.new) }
     {
@@ -73,7 +75,8 @@ impl Marks {
     /// Marks structs that have bodies and hold code pointers.
     pub(crate) fn mark_all(&mut self, structs: &[u32]) -> Result<(), AllocError>
         ensures marked { OnOk result ((defs : List StructDef) → AreMarked defs self.old
-            → All (CanMark defs) structs.now → AreMarked defs self.new × All (IsMarked self.new) structs.now) }
+            → All (CanMark defs) structs.now
+            → AreMarked defs self.new × All (IsMarked self.new) structs.now) }
         ensures extends { OnOk result (Extends self.old self.new) }
     {
         for s in structs {

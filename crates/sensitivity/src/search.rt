@@ -109,12 +109,14 @@ impl Search {
         Ok(())
     }
 
-    /// Marks what asks for structs that were found, from the first to the last. Each struct is found once.
+    /// Marks what asks for structs that were found, from the first to the last. Each struct is
+    /// found once.
     pub(crate) fn spread(&mut self, structs: &StructTable) -> Result<(), AllocError>
         requires search { IsSearch structs.now self.old }
         ensures search { OnOk result (IsSearch structs.now self.new) }
         ensures grows { OnOk result (Grows self.old self.new) }
-        ensures followed { OnOk result ((n : ℕ) → IsMarked self.new.marks n → IsFollowed self.new n) }
+        ensures followed { OnOk result ((n : ℕ) → IsMarked self.new.marks n
+            → IsFollowed self.new n) }
         ensures same { OnOk result (self.new.askers ≡ self.old.askers) }
     {
         for next in 0..structs.len() {

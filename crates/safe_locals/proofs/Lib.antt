@@ -1,0 +1,7 @@
+mod Serving
+mod Addresses
+mod Products
+mod MarksTell
+mod Judging
+mod WholeFunctions
+mod AtEach
