@@ -146,7 +146,7 @@ module _ (stay : UnitsStay) (grow : TablesGrow) (gs : List Ty) where
   member-found m before w r is sound fit =
       let node : Node Plain MemberDecl-F = out-MemberDecl m in
       let step : member_step (with_parts node) before w ≡ Ok r =
-          sym (ap (λ (f : OfMember). f before w) (walked-member node)) ∙ ap (λ t. walked.member t before w) (roll-out-MemberDecl m) ∙ is in
+      sym (ap (λ (f : OfMember). f before w) (walked-member node)) ∙ ap (λ t. walked.member t before w) (roll-out-MemberDecl m) ∙ is in
       let a = split (typed_spec node.spec false w) _ r step in
       let q : IsQuiet w a.0.1 = (((spec-meets stay grow (with_globals gs) gs (are-first gs) node.spec).0 w).found a.0 a.1.0 sound).0 in
       let b = split (member_declarators a.0.0.1 (map walked.declarator node.declarators) before a.0.1) _ r a.1.1 in

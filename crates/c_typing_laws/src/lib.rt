@@ -4,5 +4,6 @@
 mod theorems;
 
 pub use theorems::{
-    structs_get_their_bodies, typed_sources_are_typed, typed_sources_keep_their_trees, walks_meet_rows,
+    structs_get_their_bodies, typed_sources_are_typed, typed_sources_keep_their_trees,
+    walks_meet_rows,
 };
