@@ -35,7 +35,7 @@ use Rattle.c_typing_laws.proofs.WorldSteps.{IsQuiet, quiet, sound-quiet, tag-goe
 
 -- ---- members that fit
 
-abbrev pub Fit : World → List Member → Type 0
+abbrev Fit : World → List Member → Type 0
 Fit w ms = are_members w.structs ms ≡ true
 
 fit-last : (defs : List StructDef) (ms : List Member) (m : Member) → are_members defs ms ≡ true → is_member_type defs m.ty ≡ true → are_members defs (ms ++ m ∷ []) ≡ true
@@ -112,14 +112,14 @@ one-found base x before w r is fit =
 -- ---- all members
 
 module _ (stay : UnitsStay) (grow : TablesGrow) (gs : List Ty) where
-  abbrev pub Here : World → Type 0
+  abbrev Here : World → Type 0
   Here w = Sound (with_globals gs) gs w
 
   -- a step that leaves scopes and bodies, and members that fit behind it
-  abbrev pub Leaves : World → World → List Member → Type 0
+  abbrev Leaves : World → World → List Member → Type 0
   Leaves w v ms = IsQuiet w v × Fit v ms
 
-  pub here : (w v : World) → IsQuiet w v → Here w → Here v
+  here : (w v : World) → IsQuiet w v → Here w → Here v
   here w v q sound = sound-quiet grow (with_globals gs) gs w v q sound
 
   declarators-found : (base : Ty) (ds : List Declarator) (before : List Member) (w : World) (r : (List Declared × List Member) × World)
@@ -155,7 +155,7 @@ module _ (stay : UnitsStay) (grow : TablesGrow) (gs : List Ty) where
       (ended (roll-TypedMemberDecl (record { spec = a.0.0.0; declarators = b.0.0.0 }), b.0.0.1) b.0.1 r b.1.1)
       (quiet.joined w a.0.1 b.0.1 q rest.0, rest.1)
 
-  pub members-found : (ms : List MemberDecl) (before : List Member) (w : World) (r : (List TypedMemberDecl × List Member) × World)
+  members-found : (ms : List MemberDecl) (before : List Member) (w : World) (r : (List TypedMemberDecl × List Member) × World)
       → members (map walked.member ms) before w ≡ Ok r → Here w → Fit w before → Leaves w r.1 r.0.1
   members-found [] before w r is sound fit =
       subst (λ (s : (List TypedMemberDecl × List Member) × World). Leaves w s.1 s.0.1) (ended ([], before) w r is) (quiet.same w, fit)
