@@ -17,6 +17,7 @@ use Rattle.meaning.specs.declared.note.Place.TheVariants.{At, Slot}
 use Rattle.meaning.specs.declared.value.Entry.TheVariants as entry
 use Rattle.meaning.specs.declared.value.Stop.TheVariants.{Budget}
 use Rattle.machine.specs.Addresses.{start_address}
+use Rattle.meaning.specs.small.Transfers.{GoesBehind, Open, outer}
 use Rattle.machine.specs.declared.code.Code.{Code}
 use Rattle.machine.specs.declared.code.CodePlace.{CodePlace}
 use Rattle.machine.specs.declared.code.CodePlace.TheVariants.{Load, GetLocal}
@@ -183,21 +184,6 @@ pub record IsFound (before : List Step) (t a f : ℕ) : Type 0 where
   pub only : All (λ step. Gets t a step → ⊥) later
 
 -- ---- brackets
-
--- an open call: the function that was called, and the place of its call
-pub record Open : Type 0 where
-  pub function : ℕ
-  pub from : ℕ
-
--- a return from this depth goes behind the call that opened the innermost frame
-abbrev pub GoesBehind : List Open → ℕ → ℕ → ℕ → Type 0
-GoesBehind (callee ∷ caller ∷ below) depth f to =
-    (depth ≡ length (caller ∷ below)) × (f ≡ caller.function) × (to ≡ callee.from + 1)
-GoesBehind _ depth f to = ⊥
-
-abbrev pub outer : List Open → List Open
-outer [] = []
-outer (innermost ∷ below) = below
 
 -- calls, starts and returns are bracketed by depth, within these open calls, the innermost first
 abbrev pub AreBracketed : List Open → List Note → Type 0
