@@ -13,14 +13,14 @@ regroup : {A : Type 0} (found : List A) (x : A) (r : Answer (List A))
 regroup found x (Err e) = refl
 regroup found x (Ok xs) = ap Ok (append_assoc found (x ∷ []) xs)
 
-by_first : {A : Type 0} (found : List A) (ps : List (Answer A)) → ((front : List A) → each_from front ps ≡ (each ps >>= (λ xs. Ok (front ++ xs))))
+by_first : {A : Type 0} (found : List A) (ps : List (Answer A)) → ((prefix : List A) → each_from prefix ps ≡ (each ps >>= (λ xs. Ok (prefix ++ xs))))
     → (r : Answer A) → (r >>= (λ x. each_from (found ++ x ∷ []) ps)) ≡ ((r >>= (λ x. each ps >>= (λ xs. Ok (x ∷ xs)))) >>= (λ xs. Ok (found ++ xs)))
 by_first found ps rest (Err e) = refl
 by_first found ps rest (Ok x) = rest (found ++ x ∷ []) ∙ regroup found x (each ps)
 
 each_from-is : {A : Type 0} (found : List A) (ps : List (Answer A)) → each_from found ps ≡ (each ps >>= (λ xs. Ok (found ++ xs)))
 each_from-is found [] = ap Ok (sym (append-nil found))
-each_from-is found (p ∷ ps) = by_first found ps (λ front. each_from-is front ps) p
+each_from-is found (p ∷ ps) = by_first found ps (λ prefix. each_from-is prefix ps) p
 
 alone : {A : Type 0} (r : Answer (List A)) → (r >>= (λ xs. Ok ([] ++ xs))) ≡ r
 alone (Err e) = refl

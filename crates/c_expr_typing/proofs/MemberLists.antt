@@ -30,7 +30,7 @@ members_regroup found x (Err e) = refl
 members_regroup found x (Ok r) = ap (λ ys. Ok ((ys, r.0.1), r.1)) (append_assoc found (x ∷ []) r.0.0)
 
 members_by : (found : List TypedMemberDecl) (ms : List OfMember)
-    → ((front : List TypedMemberDecl) (before : List Member) (w : World) → members_from front ms before w ≡ behind front (members ms before w))
+    → ((prefix : List TypedMemberDecl) (before : List Member) (w : World) → members_from prefix ms before w ≡ behind prefix (members ms before w))
     → (r : Outcome ((TypedMemberDecl × List Member) × World))
     → and_then r (λ x. members_from (found ++ x.0 ∷ []) ms x.1) ≡ behind found (and_then r (λ x. members ms x.1 >>= (λ rest. pure (x.0 ∷ rest.0, rest.1))))
 members_by found ms rest (Err e) = refl
@@ -39,7 +39,7 @@ members_by found ms rest (Ok r) = rest (found ++ r.0.0 ∷ []) r.0.1 r.1 ∙ mem
 members_from-is : (found : List TypedMemberDecl) (ms : List OfMember) (before : List Member) (w : World)
     → members_from found ms before w ≡ behind found (members ms before w)
 members_from-is found [] before w = ap (λ xs. Ok ((xs, before), w)) (sym (append-nil found))
-members_from-is found (m ∷ ms) before w = members_by found ms (λ front. members_from-is front ms) (m before w)
+members_from-is found (m ∷ ms) before w = members_by found ms (λ prefix. members_from-is prefix ms) (m before w)
 
 pub members_from-none : (ms : List OfMember) (before : List Member) (w : World) → members_from [] ms before w ≡ members ms before w
 members_from-none ms before w = members_from-is [] ms before w ∙ behind-none (members ms before w)
@@ -55,14 +55,14 @@ declarators_regroup found x (Err e) = refl
 declarators_regroup found x (Ok r) = ap (λ ys. Ok ((ys, r.0.1), r.1)) (append_assoc found (x ∷ []) r.0.0)
 
 declarators_by : (base : Ty) (found : List Declared) (ds : List (Walk LayeredDeclarator))
-    → ((front : List Declared) (before : List Member) (w : World) → declarators_from base front ds before w ≡ behind front (member_declarators base ds before w))
+    → ((prefix : List Declared) (before : List Member) (w : World) → declarators_from base prefix ds before w ≡ behind prefix (member_declarators base ds before w))
     → (r : Outcome ((Declared × List Member) × World))
     → and_then r (λ m. declarators_from base (found ++ m.0 ∷ []) ds m.1) ≡ behind found (and_then r (λ m. member_declarators base ds m.1 >>= (λ rest. pure (m.0 ∷ rest.0, rest.1))))
 declarators_by base found ds rest (Err e) = refl
 declarators_by base found ds rest (Ok r) = rest (found ++ r.0.0 ∷ []) r.0.1 r.1 ∙ declarators_regroup found r.0.0 (member_declarators base ds r.0.1 r.1)
 
 declarators_by_first : (base : Ty) (found : List Declared) (ds : List (Walk LayeredDeclarator)) (before : List Member)
-    → ((front : List Declared) (before : List Member) (w : World) → declarators_from base front ds before w ≡ behind front (member_declarators base ds before w))
+    → ((prefix : List Declared) (before : List Member) (w : World) → declarators_from base prefix ds before w ≡ behind prefix (member_declarators base ds before w))
     → (r : Outcome (LayeredDeclarator × World))
     → and_then r (λ x. one_member base x before >>= (λ m. declarators_from base (found ++ m.0 ∷ []) ds m.1))
     ≡ behind found (and_then r (λ x. one_member base x before >>= (λ m. member_declarators base ds m.1 >>= (λ rest. pure (m.0 ∷ rest.0, rest.1)))))
@@ -72,7 +72,7 @@ declarators_by_first base found ds before rest (Ok r) = declarators_by base foun
 declarators_from-is : (base : Ty) (found : List Declared) (ds : List (Walk LayeredDeclarator)) (before : List Member) (w : World)
     → declarators_from base found ds before w ≡ behind found (member_declarators base ds before w)
 declarators_from-is base found [] before w = ap (λ xs. Ok ((xs, before), w)) (sym (append-nil found))
-declarators_from-is base found (d ∷ ds) before w = declarators_by_first base found ds before (λ front. declarators_from-is base front ds) (d w)
+declarators_from-is base found (d ∷ ds) before w = declarators_by_first base found ds before (λ prefix. declarators_from-is base prefix ds) (d w)
 
 pub declarators_from-none : (base : Ty) (ds : List (Walk LayeredDeclarator)) (before : List Member) (w : World)
     → declarators_from base [] ds before w ≡ member_declarators base ds before w

@@ -27,7 +27,7 @@ regroup found x (Err e) = refl
 regroup found x (Ok r) = ap (λ ys. Ok (ys, r.1)) (append_assoc found (x ∷ []) r.0)
 
 by_first : (found : List TypedItem) (n : ℕ) (is : List Item)
-    → ((front : List TypedItem) (w : World) → items_from front (suc n) is w ≡ behind front (typed_items (suc n) is w))
+    → ((prefix : List TypedItem) (w : World) → items_from prefix (suc n) is w ≡ behind prefix (typed_items (suc n) is w))
     → (r : Verdict (TypedItem × World))
     → next (λ x. items_from (found ++ x ∷ []) (suc n) is) r ≡ behind found (items_behind (typed_items (suc n) is) r)
 by_first found n is rest (Err e) = refl
@@ -36,7 +36,7 @@ by_first found n is rest (Ok r) = rest (found ++ r.0 ∷ []) r.1 ∙ regroup fou
 items_from-is : (found : List TypedItem) (n : ℕ) (is : List Item) (w : World)
     → items_from found n is w ≡ behind found (typed_items n is w)
 items_from-is found n [] w = ap (λ xs. Ok (xs, w)) (sym (append-nil found))
-items_from-is found n (i ∷ is) w = by_first found n is (λ front. items_from-is front (suc n) is) (numbered_item n i w)
+items_from-is found n (i ∷ is) w = by_first found n is (λ prefix. items_from-is prefix (suc n) is) (numbered_item n i w)
 
 alone : (r : Verdict (List TypedItem × World)) → behind [] r ≡ r
 alone (Ok r) = refl

@@ -55,22 +55,22 @@ content-crlf (b ∷ []) = refl
 content-crlf (b ∷ c ∷ []) = ap (λ t. b ∷ t) (content-crlf (c ∷ []))
 content-crlf (b ∷ c ∷ d ∷ bs) = ap (λ t. b ∷ t) (content-crlf (c ∷ d ∷ bs))
 
-pub content-lf : (text : List ℕ) → ((front : List ℕ) → text ≢ front ++ 13 ∷ []) → content (text ++ 10 ∷ []) ≡ text
+pub content-lf : (text : List ℕ) → ((prefix : List ℕ) → text ≢ prefix ++ 13 ∷ []) → content (text ++ 10 ∷ []) ≡ text
 content-lf [] none = refl
 content-lf (b ∷ []) none = cond-false _ _ _ (and_left (nat_eq b 13) true (ne_eqb b 13 (λ e. none [] (ap (λ x. x ∷ []) e))))
-content-lf (b ∷ c ∷ []) none = ap (λ t. b ∷ t) (content-lf (c ∷ []) (λ front e. none (b ∷ front) (ap (λ t. b ∷ t) e)))
-content-lf (b ∷ c ∷ d ∷ bs) none = ap (λ t. b ∷ t) (content-lf (c ∷ d ∷ bs) (λ front e. none (b ∷ front) (ap (λ t. b ∷ t) e)))
+content-lf (b ∷ c ∷ []) none = ap (λ t. b ∷ t) (content-lf (c ∷ []) (λ prefix e. none (b ∷ prefix) (ap (λ t. b ∷ t) e)))
+content-lf (b ∷ c ∷ d ∷ bs) none = ap (λ t. b ∷ t) (content-lf (c ∷ d ∷ bs) (λ prefix e. none (b ∷ prefix) (ap (λ t. b ∷ t) e)))
 
-pub content-no_lf : (text : List ℕ) → ((front : List ℕ) → text ≢ front ++ 10 ∷ []) → content text ≡ text
+pub content-no_lf : (text : List ℕ) → ((prefix : List ℕ) → text ≢ prefix ++ 10 ∷ []) → content text ≡ text
 content-no_lf [] none = refl
 content-no_lf (b ∷ []) none = cond-false _ _ _ (ne_eqb b 10 (λ e. none [] (ap (λ x. x ∷ []) e)))
 content-no_lf (b ∷ c ∷ []) none =
     let no : nat_eq c 10 ≡ false = ne_eqb c 10 (λ e. none (b ∷ []) (ap (λ x. b ∷ x ∷ []) e)) in
-    cond-false _ _ _ (and_right (nat_eq b 13) (nat_eq c 10) no) ∙ ap (λ t. b ∷ t) (content-no_lf (c ∷ []) (λ front e. none (b ∷ front) (ap (λ t. b ∷ t) e)))
-content-no_lf (b ∷ c ∷ d ∷ bs) none = ap (λ t. b ∷ t) (content-no_lf (c ∷ d ∷ bs) (λ front e. none (b ∷ front) (ap (λ t. b ∷ t) e)))
+    cond-false _ _ _ (and_right (nat_eq b 13) (nat_eq c 10) no) ∙ ap (λ t. b ∷ t) (content-no_lf (c ∷ []) (λ prefix e. none (b ∷ prefix) (ap (λ t. b ∷ t) e)))
+content-no_lf (b ∷ c ∷ d ∷ bs) none = ap (λ t. b ∷ t) (content-no_lf (c ∷ d ∷ bs) (λ prefix e. none (b ∷ prefix) (ap (λ t. b ∷ t) e)))
 
 -- what a line with an LF says, by what is left of it without a CR
-pub content-unwrap : (line text : List ℕ) (r : Option (Bor (List ℕ))) (whole : Bor (List ℕ)) → line ≡ text ++ 10 ∷ [] → whole.now ≡ text → MatchOption r ((front : List ℕ) → text ≢ front ++ 13 ∷ []) (λ x. text ≡ x.now ++ 13 ∷ []) → (unwrap_or r whole).now ≡ content line
+pub content-unwrap : (line text : List ℕ) (r : Option (Bor (List ℕ))) (whole : Bor (List ℕ)) → line ≡ text ++ 10 ∷ [] → whole.now ≡ text → MatchOption r ((prefix : List ℕ) → text ≢ prefix ++ 13 ∷ []) (λ x. text ≡ x.now ++ 13 ∷ []) → (unwrap_or r whole).now ≡ content line
 content-unwrap line text None whole e same none = same ∙ sym (ap content e ∙ content-lf text none)
 content-unwrap line text (Some x) whole e same cr =
     sym (ap content (e ∙ ap (λ t. t ++ 10 ∷ []) cr ∙ append_assoc x.now (13 ∷ []) (10 ∷ [])) ∙ content-crlf x.now)

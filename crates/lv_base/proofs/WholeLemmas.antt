@@ -63,12 +63,12 @@ Appends-kept (Some x) (Some y) None xs p q = absurd q
 Appends-kept (Some x) (Some y) (Some z) xs p q = q ∙ p
 
 -- what was appended is a prefix of the piece
-pub AppendsPrefix-from_split : (a b : Option (List ℕ)) (piece front rest : List ℕ) → piece ≡ front ++ rest → Appends a b front → AppendsPrefix a b piece
-AppendsPrefix-from_split a b piece front rest e p =
-    let whole : take (length front) piece ≡ front = ap (take (length front)) e ∙ take-append_seam front rest in
+pub AppendsPrefix-from_split : (a b : Option (List ℕ)) (piece prefix rest : List ℕ) → piece ≡ prefix ++ rest → Appends a b prefix → AppendsPrefix a b piece
+AppendsPrefix-from_split a b piece prefix rest e p =
+    let whole : take (length prefix) piece ≡ prefix = ap (take (length prefix)) e ∙ take-append_seam prefix rest in
     let Q : List ℕ → Type 0 = λ l. Appends a b l in
-    (length front, rw e (omega (arith, length-append front rest)), subst Q (sym whole) p)
+    (length prefix, rw e (omega (arith, length-append prefix rest)), subst Q (sym whole) p)
 
 -- the prefix grows by the first bytes of the rest
-pub split-more : (piece front rest next : List ℕ) (n : ℕ) → piece ≡ front ++ rest → next ≡ drop n rest → piece ≡ (front ++ take n rest) ++ next
-split-more piece front rest next n e d = rw (d, append_assoc, take-append-drop) e
+pub split-more : (piece prefix rest next : List ℕ) (n : ℕ) → piece ≡ prefix ++ rest → next ≡ drop n rest → piece ≡ (prefix ++ take n rest) ++ next
+split-more piece prefix rest next n e d = rw (d, append_assoc, take-append-drop) e

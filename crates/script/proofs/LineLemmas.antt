@@ -21,7 +21,7 @@ no_space (c ∷ cs) digits =
     let parts = tells_all_ascii_digits.parts c cs digits in
     (ne_eqb c 32 (λ e. omega (arith, parts.0)), no_space cs parts.1)
 
-len_before_space : (front rest : List ℕ) → AllByRecursion (λ b. nat_eq b 32 ≡ false) front → position_or_len (λ b. nat_eq b 32) (front ++ 32 ∷ rest) ≡ length front
+len_before_space : (prefix rest : List ℕ) → AllByRecursion (λ b. nat_eq b 32 ≡ false) prefix → position_or_len (λ b. nat_eq b 32) (prefix ++ 32 ∷ rest) ≡ length prefix
 len_before_space [] rest none = refl
 len_before_space (b ∷ bs) rest none = cond-true _ _ _ (ap not none.0) ∙ omega (arith, len_before_space bs rest none.1)
 

@@ -64,8 +64,8 @@ plain text (pos n) small other is = (n, small, is)
 plain text (negsuc n) small other is = absurd (other (decimal (suc n)) is)
 
 pub no_minus_word : (text digits : List ℕ) → text ≡ 45 ∷ digits → ((n : ℕ) → 0 < n → n ≤ 2 ^ 63 → digits ≢ decimal n) → (word : ℤ) → IsWord word → text ≢ signed_decimal word
-no_minus_word text digits front none word small is =
-    let found = minus digits word small (sym front ∙ is) in
+no_minus_word text digits prefix none word small is =
+    let found = minus digits word small (sym prefix ∙ is) in
     none found.0 found.1 found.2 found.3
 
 pub no_plain_word : (text : List ℕ) → ((rest : List ℕ) → text ≢ 45 ∷ rest) → ((n : ℕ) → n < 2 ^ 63 → text ≢ decimal n) → (word : ℤ) → IsWord word → text ≢ signed_decimal word

@@ -6,7 +6,7 @@ use Rattle.lv_base.proofs.sink.write_all.Given as goal
 abbrev pub invariant-loop-rest : goal.invariant-loop-rest
 invariant-loop-rest g l =
     record {
-      written : (front : List ℕ) × (l.fn.bytes ≡ front ++ l.rest) × Appends (g.K.Sink.contents l.fn.sink) (g.K.Sink.contents l.sink) front;
+      written : (prefix : List ℕ) × (l.fn.bytes ≡ prefix ++ l.rest) × Appends (g.K.Sink.contents l.fn.sink) (g.K.Sink.contents l.sink) prefix;
       counted : g.K.Sink.faults l.fn.sink ≤ g.K.Sink.faults l.sink;
     }
 

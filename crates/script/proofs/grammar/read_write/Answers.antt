@@ -39,8 +39,8 @@ returns-in_err-strip_prefix c =
 
 pub returns-in_err-word : goal.returns-in_err-word
 returns-in_err-word c =
-    let front = strip_prefix_is Decides-eqb c.split_at.result.1.now (32 ∷ []) (Some c.in_ok-strip_prefix.field-0) c.in_ok-strip_prefix.ensures.cases in
+    let prefix = strip_prefix_is Decides-eqb c.split_at.result.1.now (32 ∷ []) (Some c.in_ok-strip_prefix.field-0) c.in_ok-strip_prefix.ensures.cases in
     rw c.from_residual-in_err-word.ensures (no_write c.args.text.now (λ a v small word is.
     let parts = fields c.args.text.now a (signed_decimal v) c.len_before.result (omega arith) c.len_before.ensures is in
-    let same : 32 ∷ c.in_ok-strip_prefix.field-0.now ≡ 32 ∷ signed_decimal v = sym front ∙ c.split_at.ensures.back ∙ parts.1 in
+    let same : 32 ∷ c.in_ok-strip_prefix.field-0.now ≡ 32 ∷ signed_decimal v = sym prefix ∙ c.split_at.ensures.back ∙ parts.1 in
     c.in_err-word.ensures.none v word cc))

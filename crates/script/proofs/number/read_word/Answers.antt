@@ -9,27 +9,27 @@ use Rattle.script.proofs.number.read_word.Goals as goal
 
 pub returns-in_err-read_number-in-Some-clause-none : goal.returns-in_err-read_number-in-Some-clause-none
 returns-in_err-read_number-in-Some-clause-none c =
-    let front = strip_prefix_is Decides-eqb c.args.text.now (45 ∷ []) (Some c.in-Some.digits) c.in-Some.ensures.cases in
+    let prefix = strip_prefix_is Decides-eqb c.args.text.now (45 ∷ []) (Some c.in-Some.digits) c.in-Some.ensures.cases in
     rw c.from_residual-in_err-read_number-in-Some.ensures
-    (no_minus_word c.args.text.now c.in-Some.digits.now front (λ n some small. c.in_err-read_number-in-Some.ensures.none n (omega arith)))
+    (no_minus_word c.args.text.now c.in-Some.digits.now prefix (λ n some small. c.in_err-read_number-in-Some.ensures.none n (omega arith)))
 
 pub returns-in_err-above-in-Some-clause-none : goal.returns-in_err-above-in-Some-clause-none
 returns-in_err-above-in-Some-clause-none c =
-    let front = strip_prefix_is Decides-eqb c.args.text.now (45 ∷ []) (Some c.in-Some.digits) c.in-Some.ensures.cases in
+    let prefix = strip_prefix_is Decides-eqb c.args.text.now (45 ∷ []) (Some c.in-Some.digits) c.in-Some.ensures.cases in
     let read = c.in_ok-read_number-in-Some.field-0 in
     rw c.from_residual-in_err-above-in-Some.ensures
-    (no_minus_word c.args.text.now c.in-Some.digits.now front (λ n some small is.
+    (no_minus_word c.args.text.now c.in-Some.digits.now prefix (λ n some small is.
     let same : read ≡ n = decimal_injective read n (omega arith) (omega arith) (sym c.in_ok-read_number-in-Some.ensures.found ∙ is) in
     c.in_err-above-in-Some.ensures (omega arith)))
 
 pub returns-in_err-ok-in-Some-clause-none : goal.returns-in_err-ok-in-Some-clause-none
 returns-in_err-ok-in-Some-clause-none c =
-    let front = strip_prefix_is Decides-eqb c.args.text.now (45 ∷ []) (Some c.in-Some.digits) c.in-Some.ensures.cases in
+    let prefix = strip_prefix_is Decides-eqb c.args.text.now (45 ∷ []) (Some c.in-Some.digits) c.in-Some.ensures.cases in
     let read = c.in_ok-read_number-in-Some.field-0 in
     let none : result_ok c.try_from-in-Some.result ≡ None = sym c.ok-in-Some.ensures.value ∙ c.in_err-ok-in-Some.was in
     let large : 2 ^ 63 ≤ c.in_ok-above-in-Some.above = MatchOption-at_none _ _ none (too_large c.in_ok-above-in-Some.above c.try_from-in-Some.result c.try_from-in-Some.ensures) in
     rw c.from_residual-in_err-ok-in-Some.ensures
-    (no_minus_word c.args.text.now c.in-Some.digits.now front (λ n some small is.
+    (no_minus_word c.args.text.now c.in-Some.digits.now prefix (λ n some small is.
     let same : read ≡ n = decimal_injective read n (omega arith) (omega arith) (sym c.in_ok-read_number-in-Some.ensures.found ∙ is) in
     omega (arith, c.in_ok-above-in-Some.ensures.1)))
 
