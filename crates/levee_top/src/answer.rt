@@ -14,7 +14,7 @@ use meaning::small::{Program, Trace, is_violated};
 use meaning::{Events, Inputs};
 use script::read_script;
 use std::alloc::{AllocError, Global};
-use system::System;
+use small_system::System;
 use trace::trace_text;
 
 /// A status, and the text to write with it.

@@ -23,10 +23,10 @@ use Rattle.machine.specs.Domain.{Callee, Domain, Reaches, Refused}
 use Rattle.machine.specs.Frames.{Frame, Thread, Waiting, Starting, Running, Stopped, Effect, Stops, Goes, Enters, Leaves, Nothing, ToObject, has_begun, is_live}
 use Rattle.machine.specs.Numbers.{is_kept, is_zero, low_word, truncated}
 use Rattle.machine.specs.Protected.{finds_zero, allocate_action, is_no_thread, is_thread_number, word_of}
-use Rattle.machine.specs.Run.{Step, Turned, Wrote, CutOff, Idle, first_drawn, site_of}
+use Rattle.machine.specs.Run.{Step, Turned, Wrote, CutOff, Idle, site_of}
 use Rattle.machine.specs.Shapes as shape
 use Rattle.machine.specs.Shapes.{Shape, blank, shape_of}
-use Rattle.machine.specs.Store.{Memory, drawn_to, first_slot, input_at, new_number, word_at}
+use Rattle.machine.specs.Store.{Memory, drawn_to, first_drawn, first_slot, input_at, new_number, word_at}
 use Rattle.machine.specs.Threads.{Told, applied, begins, defines, frame_units, goes_on, has_room, opened, place_at, sets, stays, stops}
 use Rattle.machine.specs.Values.{code_number, moved_number}
 

@@ -11,7 +11,7 @@ use Rattle.meaning.specs.declared.value.Value.{Value}
 use Rattle.machine.specs.declared.code.Code.{Code}
 use Rattle.machine.specs.Frames.{Thread, Waiting, Running, Stopped, has_begun, is_live}
 use Rattle.machine.specs.Protected.{next, protected, resume}
-use Rattle.machine.specs.Store.{Memory, Store, answer, remembered, stored}
+use Rattle.machine.specs.Store.{Memory, Store, answer, new_store, remembered, stored}
 use Rattle.machine.specs.Threads.{opened}
 
 -- where a thread stands: the depth of its top frame, and the place of its instruction
@@ -91,14 +91,10 @@ happens setting s (Turn t) = turns setting s t (slice_get s.threads t)
 happens setting s (Corrupt a w) = record { step = Wrote a w; after = record s { memory = insert s.memory a w } }
 happens setting s (Cut t) = cuts s t (slice_get s.threads t)
 
--- the first slot that is drawn
-abbrev pub first_drawn : ℕ
-first_drawn = 1026
-
 -- Nothing is stored, thread 0 stands in the entry function, and the others, of so many in all, wait.
 abbrev pub opening : Setting → ℕ → State
 opening setting threads = record {
-  store = record { next = first_drawn; ended = []; count = 1; entries = empty };
+  store = new_store;
   memory = empty;
   threads = Running (opened protected setting.code setting.code.entry []) [] ∷ replicate (threads - 1) Waiting;
 }

@@ -1,7 +1,6 @@
 -- The safe store, ordinary memory and the inputs: what they answer, and what actions change.
-use Rattle.std.specs.Prelude.{ℕ, ℤ, pos, negsuc, ◌+◌, ◌-◌, ◌^◌, Bool, not, if◌then◌else◌, min, nat_le, nat_eq, List, ◌∷◌, Option, Some, None, unwrap_or, slice_get}
-use Rattle.std.specs.FinMap.{FinMap, get, insert}
-use Rattle.std.specs.List.{list_any}
+use Rattle.std.specs.Prelude.{ℕ, ℤ, pos, negsuc, ◌+◌, ◌-◌, ◌^◌, Bool, not, if◌then◌else◌, min, nat_le, nat_eq, List, Option, Some, None, is_some, unwrap_or, slice_get}
+use Rattle.std.specs.FinMap.{FinMap, empty, get, insert}
 use Rattle.std.specs.Ordering.{nat_cmp}
 use Rattle.meaning.specs.declared.action.Action.{Action}
 use Rattle.meaning.specs.declared.action.Action.TheVariants as act
@@ -15,10 +14,18 @@ pub record Store : Type 0 where
   -- the next slot that is drawn
   pub next : ℕ
   -- the ids that are ended
-  pub ended : List ℕ
+  pub ended : FinMap nat_cmp (Unit {0})
   -- the threads that there are
   pub count : ℕ
   pub entries : FinMap nat_cmp Entry
+
+-- the first slot that is drawn
+abbrev pub first_drawn : ℕ
+first_drawn = 1026
+
+-- the store before anything is done: thread 0 is there, and nothing is put or ended
+abbrev pub new_store : Store
+new_store = record { next = first_drawn; ended = empty; count = 1; entries = empty }
 
 -- ordinary memory: 0 where nothing was written
 abbrev pub Memory : Type 0
@@ -28,7 +35,7 @@ abbrev pub word_at : Memory → ℕ → ℤ
 word_at memory a = unwrap_or (get memory a) (pos 0)
 
 abbrev pub is_ended : Store → ℕ → Bool
-is_ended store id = list_any (nat_eq id) store.ended
+is_ended store id = is_some (get store.ended id)
 
 -- the first of k slots, where they are at most so many in all
 abbrev pub first_slot : ℕ → ℕ → ℕ → Option ℕ
@@ -62,7 +69,7 @@ answer slots threads inputs store memory _ = reply.Nothing
 abbrev pub stored : ℕ → Store → Action → Store
 stored threads store (act.Put a e) = record store { entries = insert store.entries a e }
 stored threads store (act.Alloc k) = record store { next = drawn_to store.next k }
-stored threads store (act.Free id) = record store { ended = id ∷ store.ended }
+stored threads store (act.Free id) = record store { ended = insert store.ended id tt }
 stored threads store act.Fork =
     record store { count = if nat_eq store.count threads then store.count else store.count + 1 }
 stored threads store _ = store

@@ -1,6 +1,9 @@
 -- The records of a run.
-use Rattle.std.specs.Prelude.{List, [], ◌∷◌, ◌++◌, map}
+use Rattle.std.specs.Prelude.{ℕ, List, [], ◌∷◌, ◌++◌, map}
 use Rattle.std.specs.List.{flat_map}
+use Rattle.meaning.specs.declared.action.Action.{Action}
+use Rattle.meaning.specs.declared.action.Reply.{Reply}
+use Rattle.meaning.specs.declared.note.Note.{Note}
 use Rattle.meaning.specs.declared.note.Note.TheVariants as note
 use Rattle.meaning.specs.declared.small.record.Record.{Record}
 use Rattle.meaning.specs.declared.small.record.Record.TheVariants.{Noted, Wrote}
@@ -8,9 +11,13 @@ use Rattle.meaning.specs.declared.value.Stop.TheVariants.{Budget}
 use Rattle.meaning.specs.small.Trace.{added_all, did, or_one_step}
 use Rattle.machine.specs.Run.{CutOff, Idle, Step, Turned, Wrote as WroteStep}
 
+-- the records of a turn
+abbrev pub turn_records : ℕ → Action → Reply → List Note → List Record
+turn_records t action answer notes = or_one_step t (did t action answer ++ map (Noted t) notes)
+
 -- the records of one step
 abbrev pub records_of : Step → List Record
-records_of (Turned t site action answer notes) = or_one_step t (did t action answer ++ map (Noted t) notes)
+records_of (Turned t site action answer notes) = turn_records t action answer notes
 records_of (WroteStep a w) = Wrote a w ∷ []
 records_of (CutOff t) = Noted t (note.Stopped Budget) ∷ []
 records_of Idle = []

@@ -6,7 +6,7 @@ use meaning::{Action, Check, Entry, Event, Note, Place, Reply, Stop};
 use sqlite_items::Items;
 use std::alloc::{AllocError, Global};
 use std::test::Fail;
-use system::System;
+use small_system::System;
 
 const POINTER: GlobalType = GlobalType::Pointer;
 

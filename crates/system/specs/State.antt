@@ -1,44 +1,42 @@
--- The state of the definition that a system stands for.
-use Rattle.std.specs.Prelude.{◌≡◌, ℕ, List, map, reverse}
-use Rattle.meaning.specs.declared.event.Event.{Event}
-use Rattle.meaning.specs.declared.small.program.Program.{Program}
-use Rattle.meaning.specs.small.Machine as model
-use Rattle.meaning.specs.small.Run.{state_after, opening}
-use Rattle.system.specs.declared.frame.Frame.{Frame}
+-- The state of the definition that a system stands for, and of which code it is a system.
+use Rattle.std.specs.Prelude.{◌≡◌, ℕ, ◌≤◌, List, length, map, Option, Some, None, slice_get}
+use Rattle.meaning.specs.declared.value.Stop.TheVariants.{Budget}
+use Rattle.meaning.specs.declared.value.Value.{Value}
+use Rattle.machine.specs.declared.code.Code.{Code}
+use Rattle.machine.specs.Frames.{Thread, Stopped}
+use Rattle.machine.specs.Run.{Setting, State}
+use Rattle.thread_engine.specs.Sound.{IsSound, most_slots}
+use Rattle.thread_engine.specs.State.{ThreadState}
 use Rattle.system.specs.declared.machine.System.{System}
-use Rattle.system.specs.declared.memories.Memories.{Memories}
-use Rattle.system.specs.declared.thread.Frames.{Frames}
-use Rattle.system.specs.declared.thread.Thread.{Thread}
-use Rattle.system.specs.declared.thread.Thread.TheVariants.{Running, Ended, Stopped}
 
-abbrev pub frame_of : Frame → model.Frame
-frame_of f = record { function = f.function; place = f.place; registers = f.registers }
-
--- the top frame, and those below it from the top down
-abbrev pub top_of : Frames → model.Frame
-top_of frames = frame_of frames.top
-
-abbrev pub below_of : Frames → List model.Frame
-below_of frames = reverse (map frame_of frames.below)
-
-abbrev pub thread_of : Thread → model.Thread
-thread_of (Running frames) = model.Running (top_of frames) (below_of frames)
-thread_of Ended = model.Ended
-thread_of (Stopped stop) = model.Stopped stop
-
--- these memories with a thread
-abbrev pub state_with : Memories → model.Thread → model.State
-state_with memories thread = record { store = memories.store; memory = memories.ordinary; thread = thread }
+-- a thread, or one that was cut off
+abbrev pub thread_of : Option ThreadState → Thread Value
+thread_of None = Stopped Budget
+thread_of (Some t) = t.thread
 
 -- what the system stands for
-abbrev pub state_of : System → model.State
-state_of s = state_with s.memories (thread_of s.thread)
+abbrev pub state_of : System → State
+state_of s = record {
+  store = s.memories.region.store;
+  memory = s.memories.plain;
+  threads = map thread_of s.threads.items;
+}
 
--- how many threads it has
+-- a run of this code with the system's inputs and slots
+abbrev pub setting_of : Code → System → Setting
+setting_of code s = record { code = code; inputs = s.memories.inputs; slots = s.memories.region.slots }
+
 abbrev pub threads_of : System → ℕ
-threads_of s = s.threads
+threads_of s = s.memories.region.threads
 
--- the system was opened for this program, and stands behind some events of its run
-abbrev pub IsRunOf : Program → System → Type 0
-IsRunOf program s =
-    (events : List Event) × (state_of s ≡ state_after program (threads_of s) (opening program) events)
+-- thread n of this code, unless it was cut off
+abbrev pub IsSeat : Code → ℕ → Option ThreadState → Type 0
+IsSeat code n None = Unit {0}
+IsSeat code n (Some t) = (t.number ≡ n) × IsSound code t.thread
+
+-- the system was opened for this code
+pub record IsSystemOf (code : Code) (s : System) : Type 0 where
+  pub each : (n : ℕ) (seat : Option ThreadState) → slice_get s.threads.items n ≡ Some seat → IsSeat code n seat
+  pub count : threads_of s ≡ length s.threads.items
+  pub few : threads_of s ≤ 16
+  pub slots : s.memories.region.slots ≤ most_slots

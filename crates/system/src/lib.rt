@@ -1,16 +1,10 @@
-//! The protected machine: a program's run over turns, corruptions and cuts, with the safe store apart
+//! The protected machine over all of Core: a run of code over turns, corruptions and cuts, with the safe store apart
 //! from ordinary memory.
 #![tactic(auto)]
 
-mod action;
-mod address_map;
-mod frame;
 mod machine;
 mod memories;
-mod number;
 mod record;
-mod resume;
-mod thread;
 mod turn;
 
 pub use machine::System;

@@ -1,53 +1,67 @@
-//! The safe store and ordinary memory, and how they answer an action.
-ghost use Rattle.std.specs.Prelude.{◌≡◌, OnOk};
-ghost use Rattle.std.specs.FinMap as map;
-ghost use Rattle.meaning.specs.small.Machine as model;
-ghost use Rattle.system.specs.State.{state_with};
+//! The safe store, ordinary memory and the inputs, and how they answer an action.
+ghost use Rattle.std.specs.Prelude.{◌≡◌, ◌≤◌, IfOk, OnOk, OnErr};
+ghost use Rattle.meaning.specs.Action.{Fits};
+ghost use Rattle.machine.specs.Store.{input_at, remembered};
+ghost use Rattle.region_seq.specs.Bounded.{behind};
+ghost use Rattle.thread_engine.specs.Sound.{SlotsAreThere, most_slots};
+ghost use Rattle.system.specs.inner.Seats.{answer_of};
 
-use super::address_map::AddressMap;
-use meaning::{Action, Entry, Reply};
-use std::alloc::{AllocError, Global};
+use meaning::{Action, Inputs, Reply};
+use plain_seq::Plain;
+use region_seq::Region;
+use std::alloc::AllocError;
 
-/// The safe store, and ordinary memory, which has 0 where nothing was written.
+/// The safe store, ordinary memory and the inputs.
 #[derive(Drop)]
 pub struct Memories {
-    pub store: AddressMap<Entry>,
-    pub ordinary: AddressMap<i64>,
+    pub region: Region,
+    pub plain: Plain,
+    pub inputs: Inputs,
 }
 
 impl Memories {
-    /// Memories to which nothing was written.
-    pub fn new(alloc: Global) -> Memories
-        ensures store { result.store ≡ map.empty }
-        ensures ordinary { result.ordinary ≡ map.empty }
+    /// The input of this number, from 0, and 0 where there is none.
+    fn input(&self, n: i64) -> i64
+        ensures { result ≡ input_at self.now.inputs n }
     {
-        Memories {
-            store: AddressMap::new(alloc),
-            ordinary: AddressMap::new(alloc),
-        }
+        let Ok(n) = usize::try_from(n) else {
+            return 0;
+        };
+        self.inputs.get(n).copied().unwrap_or(0)
     }
 
-    /// What the memories answer. No statement of the small language ends an id.
-    pub fn answer(&self, action: Action) -> Reply
-        ensures { (thread : model.Thread) → result ≡ model.answer (state_with self.now thread) action }
+    /// What answers an action, which changes what it changes.
+    ///
+    /// # Errors
+    ///
+    /// `AllocError`, which leaves everything as it was.
+    #[tactic(auto, using(crate::proofs::AnswersFit::answers_fit, crate::proofs::AnswersFit::slots_are_there))]
+    pub fn answer(&mut self, action: Action) -> Result<Reply, AllocError>
+        requires slots { self.old.region.slots ≤ most_slots }
+        ensures reply { IfOk result (λ r. r ≡ answer_of self.old action) }
+        ensures region { OnOk result (self.new.region ≡ behind self.old.region action) }
+        ensures plain { OnOk result (self.new.plain ≡ remembered self.old.plain action) }
+        ensures inputs { self.new.inputs ≡ self.old.inputs }
+        ensures err { OnErr result ((self.new.region ≡ self.old.region) × (self.new.plain ≡ self.old.plain)) }
     {
         match action {
-            Action::Load(at) => Reply::Word(self.ordinary.get(at).unwrap_or(0)),
-            Action::Get(at) => Reply::Found(self.store.get(at)),
-            Action::Look(_) => Reply::Flag(true),
-            _ => Reply::Nothing,
-        }
-    }
-
-    /// Changes what an action changes.
-    pub fn affect(&mut self, action: Action) -> Result<(), AllocError>
-        ensures { OnOk result ((thread : model.Thread)
-            → state_with self.new thread ≡ model.affected (state_with self.old thread) action) }
-    {
-        match action {
-            Action::Store(at, word) => self.ordinary.insert(at, word),
-            Action::Put(at, entry) => self.store.insert(at, entry),
-            _ => Ok(()),
+            Action::Load(a) => Ok(Reply::Word(self.plain.load(a))),
+            Action::Store(a, v) => {
+                self.plain.store(a, v)?;
+                Ok(Reply::Nothing)
+            }
+            Action::TryLock(a) => Ok(Reply::Word(self.plain.try_lock(a)?)),
+            Action::Get(a) => Ok(Reply::Found(self.region.get(a))),
+            Action::Put(a, e) => {
+                self.region.put(a, e)?;
+                Ok(Reply::Nothing)
+            }
+            Action::Alloc(k) => Ok(Reply::Slot(self.region.alloc(k))),
+            Action::Free(id) => Ok(Reply::Flag(self.region.free(id)?)),
+            Action::Look(id) => Ok(Reply::Flag(self.region.look(id))),
+            Action::Fork => Ok(Reply::Thread(self.region.fork())),
+            Action::Input(n) => Ok(Reply::Word(self.input(n))),
+            Action::Own | Action::Print(_) | Action::Halt(_) => Ok(Reply::Nothing),
         }
     }
 }

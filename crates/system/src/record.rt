@@ -1,41 +1,40 @@
 //! What a turn adds to the trace.
-ghost use Rattle.std.specs.Prelude.{◌≡◌, ◌++◌, ◌∷◌, [], map, OnOk, OnErr, List, option_to_list};
-ghost use Rattle.meaning.specs.small.Trace.{added, added_all, did, or_one_step};
+ghost use Rattle.std.specs.Prelude.{◌≡◌, ◌+◌, ◌++◌, ◌≤◌, ◌<◌, ◌∷◌, [], map, length, option_to_list};
+ghost use Rattle.meaning.specs.Action.{Fits};
+ghost use Rattle.meaning.specs.small.Trace.{added_all, did, or_one_step};
 ghost use Rattle.meaning.specs.declared.small.record.Record.{Record};
+ghost use Rattle.trace.specs.Records.{IsRecord};
 
-use meaning::small::{Record, Trace, add_record};
+use meaning::small::Record;
 use meaning::{Action, Note, Reply};
-use std::alloc::AllocError;
+use trace::Trace;
 
-/// Records a turn of a thread: its action with its reply unless that is nothing or a halt, then its note,
-/// and a step where there is neither.
-///
-/// # Errors
-///
-/// `AllocError`, which leaves the trace as it was.
-pub fn record_turn(
-    trace: &mut Trace,
-    t: u8,
-    action: Action,
-    reply: Reply,
-    note: Option<Note>,
-) -> Result<(), AllocError>
-    ensures ok { OnOk result (trace.new
-        ≡ added_all trace.old (or_one_step t (did t action reply ++ map (Record.Noted t) (option_to_list note)))) }
-    ensures err { OnErr result (trace.new ≡ trace.old) }
+/// Records a turn of a thread: its action with its reply unless that is nothing or a halt, then its notes, and a step
+/// where there is neither.
+pub fn record_turn(trace: &mut Trace, t: u8, action: Action, reply: Reply, notes: &[Note])
+    requires thread { t < 16 }
+    requires fits { Fits action reply }
+    requires spare { length notes.now + 1 ≤ trace.old.spare }
+    ensures records { trace.new.records
+        ≡ added_all trace.old.records (or_one_step t (did t action reply ++ map (Record.Noted t) notes.now)) }
+    ensures inputs { trace.new.inputs ≡ trace.old.inputs }
 {
-    let did = did(t, action, reply);
-    match (did, note) {
-        (Some(did), Some(note)) => record_both(trace, did, Record::Noted { t, note }),
-        (Some(did), None) => add_record(trace, did),
-        (None, Some(note)) => add_record(trace, Record::Noted { t, note }),
-        (None, None) => add_record(trace, Record::Steps { t, n: 1 }),
+    match did(t, action, reply) {
+        Some(did) => {
+            trace.push(did);
+            record_notes(trace, t, notes);
+        }
+        None if notes.is_empty() => trace.push(Record::Steps { t, n: 1 }),
+        None => record_notes(trace, t, notes),
     }
 }
 
 /// What a turn did, unless that is nothing or a halt.
 fn did(t: u8, action: Action, reply: Reply) -> Option<Record>
-    ensures { option_to_list result ≡ did t action reply }
+    requires thread { t < 16 }
+    requires fits { Fits action reply }
+    ensures did { option_to_list result ≡ did t action reply }
+    ensures record { IfSome result IsRecord }
 {
     match action {
         Action::Own | Action::Halt(_) => None,
@@ -43,16 +42,15 @@ fn did(t: u8, action: Action, reply: Reply) -> Option<Record>
     }
 }
 
-/// Adds two records or none.
-fn record_both(trace: &mut Trace, first: Record, second: Record) -> Result<(), AllocError>
-    requires { (trace : List Record) → added trace first ≡ trace ++ first ∷ [] }
-    ensures ok { OnOk result (trace.new ≡ added_all trace.old (first ∷ second ∷ [])) }
-    ensures err { OnErr result (trace.new ≡ trace.old) }
+/// Records notes in their order.
+#[tactic(auto, using(crate::proofs::NotesInOrder::one_more))]
+fn record_notes(trace: &mut Trace, t: u8, notes: &[Note])
+    requires thread { t < 16 }
+    requires spare { length notes.now ≤ trace.old.spare }
+    ensures records { trace.new.records ≡ added_all trace.old.records (map (Record.Noted t) notes.now) }
+    ensures inputs { trace.new.inputs ≡ trace.old.inputs }
 {
-    add_record(trace, first)?;
-    if let Err(error) = add_record(trace, second) {
-        trace.pop();
-        return Err(error);
+    for note in notes {
+        trace.push(Record::Noted { t, note: *note });
     }
-    Ok(())
 }

@@ -1,44 +1,57 @@
-//! A whole turn of a running thread.
-ghost use Rattle.std.specs.Prelude.{◌≡◌, ◌∷◌, [], ◌<◌, length, IsSome, IfOk, OnOk, OnErr};
-ghost use Rattle.meaning.specs.small.Machine.{instruction_at};
-ghost use Rattle.meaning.specs.small.Program.{IsValid};
-ghost use Rattle.meaning.specs.small.Trace.{traced};
-ghost use Rattle.system.specs.State.{state_with, thread_of};
-ghost use Rattle.system.specs.inner.Turn.{turn_of};
+//! A turn of one thread.
+ghost use Rattle.std.specs.Prelude.{◌≡◌, ◌≤◌, ◌<◌, OnOk, OnErr};
+ghost use Rattle.machine.specs.ValidCode.{ValidCode};
+ghost use Rattle.machine.specs.Store.{remembered};
+ghost use Rattle.meaning.specs.small.Trace.{added_all};
+ghost use Rattle.machine.specs.Trace.{turn_records};
+ghost use Rattle.region_seq.specs.Bounded.{behind};
+ghost use Rattle.thread_engine.specs.Sound.{IsSound, most_slots};
+ghost use Rattle.system.specs.inner.Seats.{answer_of, asked, told_of};
 
-use super::action::next_action;
 use super::memories::Memories;
 use super::record::record_turn;
-use super::resume::{follow, instruction_at};
-use super::thread::{Frames, Thread};
-use meaning::small::{Program, Trace};
+use machine::Code;
 use std::alloc::AllocError;
+use thread_engine::Thread;
+use trace::Trace;
 
-/// A turn of the thread with these frames. Its instruction's action is answered and takes effect, and the
-/// turn is recorded. Answers the thread that it leaves.
+/// The most records of a turn: its action, a transfer, and a function for each parameter.
+const MOST_RECORDS: usize = 11;
+
+/// A turn of live thread `t`, which is recorded.
 ///
 /// # Errors
 ///
-/// `AllocError`, which leaves the trace as it was.
-pub fn act(
-    program: &Program,
-    frames: Frames,
+/// `AllocError`. The thread, the inputs and the trace are as before.
+pub fn take_turn(
+    code: &Code,
+    t: u8,
+    thread: &mut Thread,
     memories: &mut Memories,
     trace: &mut Trace,
-) -> Result<Thread, AllocError>
-    requires valid { IsValid program.now }
-    requires there { IsSome (instruction_at program.now frames.top.function frames.top.place) }
-    requires few { length frames.below < 4096 }
-    ensures ok { IfOk result (λ thread.
-        state_with memories.new (thread_of thread) ≡ (turn_of program.now memories.old frames).after) }
-    ensures recorded { OnOk result (trace.new ≡ traced trace.old ((turn_of program.now memories.old frames).step ∷ [])) }
-    ensures err { OnErr result (trace.new ≡ trace.old) }
+) -> Result<(), AllocError>
+    requires valid { ValidCode code.now }
+    requires sound { IsSound code.now thread.old.thread }
+    requires number { thread.old.number ≡ t }
+    requires few { t < 16 }
+    requires slots { memories.old.region.slots ≤ most_slots }
+    ensures thread { OnOk result (thread.new ≡ record thread.old { thread = (told_of code.now t thread.old.thread memories.old).thread }) }
+    ensures region { OnOk result (memories.new.region ≡ behind memories.old.region (asked code.now t thread.old.thread)) }
+    ensures plain { OnOk result (memories.new.plain ≡ remembered memories.old.plain (asked code.now t thread.old.thread)) }
+    ensures records { OnOk result (trace.new.records ≡ added_all trace.old.records
+        (turn_records t (asked code.now t thread.old.thread)
+            (answer_of memories.old (asked code.now t thread.old.thread))
+            (told_of code.now t thread.old.thread memories.old).notes)) }
+    ensures err { OnErr result ((thread.new ≡ thread.old) × (trace.new.records ≡ trace.old.records)) }
+    ensures sound { IsSound code.now thread.new.thread }
+    ensures inputs { memories.new.inputs ≡ memories.old.inputs }
+    ensures bounds { (memories.new.region.slots ≡ memories.old.region.slots) × (memories.new.region.threads ≡ memories.old.region.threads) }
+    ensures trace_inputs { trace.new.inputs ≡ trace.old.inputs }
 {
-    let instr = instruction_at(program, frames.top.function, frames.top.place);
-    let action = next_action(program, &frames, instr);
-    let reply = memories.answer(action);
-    memories.affect(action)?;
-    let next = follow(program, frames, instr, action, reply)?;
-    record_turn(trace, 0, action, reply, next.note)?;
-    Ok(next.thread)
+    trace.reserve(MOST_RECORDS)?;
+    let action = thread.next(code);
+    let reply = memories.answer(action)?;
+    let notes = thread.resume(code, reply)?;
+    record_turn(trace, t, action, reply, notes.as_slice());
+    Ok(())
 }

@@ -1,0 +1,6 @@
+//! Maps from addresses.
+#![tactic(auto)]
+
+mod address_map;
+
+pub use address_map::AddressMap;

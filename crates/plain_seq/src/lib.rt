@@ -1,0 +1,6 @@
+//! The ordinary memory of the scheduled core.
+#![tactic(auto)]
+
+mod plain;
+
+pub use plain::Plain;

@@ -1,0 +1,5 @@
+mod FramesBottomFirst
+mod FramesStandAtInstructions
+mod RecordsGoLast
+mod RunsInParts
+mod ValidBodies

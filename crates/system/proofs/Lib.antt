@@ -1,6 +1,0 @@
-mod FramesBottomFirst
-mod FramesStandAtInstructions
-mod MapLemmas
-mod RecordsGoLast
-mod RunsInParts
-mod ValidBodies
