@@ -13,9 +13,9 @@ use std::marker::Model;
 /// The inputs of a run, its records in order, and room for further ones.
 #[derive(Drop)]
 pub struct Trace {
-    alloc: Global,
-    inputs: Inputs,
-    records: Vec<Record>,
+    pub(crate) alloc: Global,
+    pub(crate) inputs: Inputs,
+    pub(crate) records: Vec<Record>,
 }
 
 impl Model for Trace {
