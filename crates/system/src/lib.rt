@@ -2,9 +2,5 @@
 //! from ordinary memory.
 #![tactic(auto)]
 
-mod machine;
 mod memories;
 mod record;
-mod turn;
-
-pub use machine::System;

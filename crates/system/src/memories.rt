@@ -1,9 +1,7 @@
 //! The safe store, ordinary memory and the inputs, and how they answer an action.
-ghost use Rattle.std.specs.Prelude.{◌≡◌, ◌≤◌, IfOk, OnOk, OnErr};
-ghost use Rattle.meaning.specs.Action.{Fits};
+ghost use Rattle.std.specs.Prelude.{◌≡◌, IfOk, OnOk, OnErr};
 ghost use Rattle.machine.specs.Store.{input_at, remembered};
 ghost use Rattle.region_seq.specs.Bounded.{behind};
-ghost use Rattle.thread_engine.specs.Sound.{SlotsAreThere, most_slots};
 ghost use Rattle.system.specs.inner.Seats.{answer_of};
 
 use meaning::{Action, Inputs, Reply};
@@ -35,9 +33,7 @@ impl Memories {
     /// # Errors
     ///
     /// `AllocError`, which leaves everything as it was.
-    #[tactic(auto, using(crate::proofs::AnswersFit::answers_fit, crate::proofs::AnswersFit::slots_are_there))]
     pub fn answer(&mut self, action: Action) -> Result<Reply, AllocError>
-        requires slots { self.old.region.slots ≤ most_slots }
         ensures reply { IfOk result (λ r. r ≡ answer_of self.old action) }
         ensures region { OnOk result (self.new.region ≡ behind self.old.region action) }
         ensures plain { OnOk result (self.new.plain ≡ remembered self.old.plain action) }

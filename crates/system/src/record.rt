@@ -1,5 +1,5 @@
 //! What a turn adds to the trace.
-ghost use Rattle.std.specs.Prelude.{◌≡◌, ◌+◌, ◌++◌, ◌≤◌, ◌<◌, ◌∷◌, [], map, length, option_to_list};
+ghost use Rattle.std.specs.Prelude.{◌≡◌, ◌+◌, ◌++◌, ◌≤◌, ◌<◌, ◌∷◌, [], map, length, IfSome, option_to_list};
 ghost use Rattle.meaning.specs.Action.{Fits};
 ghost use Rattle.meaning.specs.small.Trace.{added_all, did, or_one_step};
 ghost use Rattle.meaning.specs.declared.small.record.Record.{Record};
@@ -43,7 +43,6 @@ fn did(t: u8, action: Action, reply: Reply) -> Option<Record>
 }
 
 /// Records notes in their order.
-#[tactic(auto, using(crate::proofs::NotesInOrder::one_more))]
 fn record_notes(trace: &mut Trace, t: u8, notes: &[Note])
     requires thread { t < 16 }
     requires spare { length notes.now ≤ trace.old.spare }
