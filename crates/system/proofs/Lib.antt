@@ -1,1 +1,3 @@
-mod NotesInOrder
+mod AnswersFit
+mod RecordsInOrder
+mod Turns
