@@ -1,3 +1,5 @@
 mod AnswersFit
 mod RecordsInOrder
+mod RunsInParts
+mod SeatLemmas
 mod Turns

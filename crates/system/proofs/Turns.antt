@@ -36,7 +36,13 @@ recorded code t thread m threads records records' len live is =
     let rs = turn_records t (next code t thread) (answer_of m (next code t thread)) (told_of code t thread m).notes in
     rw (live, len) (is ∙ ap (added_all records) (sym (append-nil rs)))
 
--- a turn of a thread that isn't live does nothing
+-- a turn of a thread that isn't live has no records
+pub unrecorded : (code : Code) (t : ℕ) (thread : Thread Value) (m : Memories) (threads : List (Thread Value)) (records : List Record)
+    → is_live thread ≡ false
+    → records ≡ traced records ((turns (setting_with code m) (state_with m threads) t (Some thread)).step ∷ [])
+unrecorded code t thread m threads records dead = rw dead refl
+
+-- and does nothing
 pub idle : (code : Code) (t : ℕ) (thread : Thread Value) (m : Memories) (threads : List (Thread Value))
     → is_live thread ≡ false
     → slice_get threads t ≡ Some thread
