@@ -1,0 +1,6 @@
+pub mod SameFunctions
+pub mod Counts
+pub mod Slots
+pub mod Valid
+pub mod Effects
+pub mod Preserved
