@@ -32,6 +32,9 @@ filled_up {V} (suc n) m (x ∷ xs) v le =
     let rest : n - length xs ≡ suc n - suc (length xs) = omega arith in
     ap {B = List V} (λ r. x ∷ r) (filled_up n m xs v (omega arith) ∙ ap (λ (k : ℕ). take n xs ++ replicate k v) rest)
 
+pub slots_filled : (n : ℕ) (xs : List Value) (v : Value) → take n (xs ++ replicate n v) ≡ take n xs ++ replicate (n - length xs) v
+slots_filled n xs v = filled_up n n xs v (omega arith)
+
 -- no function is in a slot to which nothing was written
 told_blanks : (depth s n : ℕ) → slots_told protected depth s (replicate n (blank protected)) ≡ []
 told_blanks depth s zero = refl

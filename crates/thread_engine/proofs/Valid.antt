@@ -1,5 +1,5 @@
 -- What valid code says of places, functions and their frames.
-use Rattle.std.proofs.Common.{◌≡◌, ℕ, zero, suc, ◌+◌, ◌*◌, ◌≤◌, ◌<◌, ◌^◌, min, Bool, true, false, if◌then◌else◌, List, [], ◌∷◌, ◌++◌, length, take, replicate, Option, Some, None, All, slice_get, refl, sym, ap, ◌∙◌, subst, arith}
+use Rattle.std.proofs.Common.{◌≡◌, ℕ, zero, suc, ◌+◌, ◌*◌, ◌≤◌, ◌<◌, ◌^◌, min, Bool, true, false, if◌then◌else◌, List, [], ◌∷◌, ◌++◌, length, take, replicate, Option, Some, None, All, slice_get, slice_index_or, refl, sym, ap, ◌∙◌, subst, arith}
 use Rattle.std.proofs.lemmas.List.{length-append, length-replicate, length-take}
 use Rattle.c_types.specs.declared.ty.FnTy.{out-FnTy}
 use Rattle.meaning.specs.declared.value.Value.{Value}
@@ -17,16 +17,19 @@ use Rattle.thread_engine.specs.Sound.{IsSoundFrame, length_of}
 
 -- ---- lists
 
-pub at_place : {A : Type 0} (P : A → Type 0) (xs : List A) (i : ℕ) (x : A) → All P xs → slice_get xs i ≡ Some x → P x
-at_place P [] i x all there = absurd (cc)
-at_place P (y ∷ ys) zero x all there = let same : y ≡ x = cc in subst P same all.0
-at_place P (y ∷ ys) (suc i) x all there = at_place P ys i x all.1 there
-
 pub stands_within : {A : Type 0} (xs : List A) (i : ℕ) (x : A) → slice_get xs i ≡ Some x → i < length xs
 stands_within [] i x there = absurd (cc)
 stands_within (y ∷ ys) zero x there = omega arith
 stands_within (y ∷ ys) (suc i) x there =
     let rest : i < length ys = stands_within ys i x there in omega arith
+
+read_at : {A : Type 0} (xs : List A) (i : ℕ) (x : A) → slice_get xs i ≡ Some x → slice_index_or xs i x ≡ x
+read_at [] i x there = refl
+read_at (y ∷ ys) zero x there = cc
+read_at (y ∷ ys) (suc i) x there = read_at ys i x there
+
+pub at_place : {A : Type 0} (P : A → Type 0) (xs : List A) (i : ℕ) (x : A) → All P xs → slice_get xs i ≡ Some x → P x
+at_place P xs i x all there = subst P (read_at xs i x there) (all i x (stands_within xs i x there))
 
 -- ---- functions
 

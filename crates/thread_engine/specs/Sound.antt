@@ -1,6 +1,5 @@
 -- Which threads a turn may be taken of, and which answers they may be given.
 use Rattle.std.specs.Prelude.{ℕ, ◌≡◌, ◌+◌, ◌≤◌, List, [], ◌∷◌, length, Option, Some, None, IfSome}
-use Rattle.std.specs.List.{All}
 use Rattle.meaning.specs.declared.action.Action.{Action}
 use Rattle.meaning.specs.declared.action.Action.TheVariants as act
 use Rattle.meaning.specs.declared.action.Reply.{Reply}
@@ -23,9 +22,13 @@ pub record IsSoundFrame (code : Code) (f : Frame Value) : Type 0 where
   pub size : length_of f ≡ size_of code f.function
   pub object : IfSome f.object (λ id. id ≤ most_slots)
 
+abbrev pub EachIsSound : Code → List (Frame Value) → Type 0
+EachIsSound code [] = Unit {0}
+EachIsSound code (f ∷ fs) = IsSoundFrame code f × EachIsSound code fs
+
 -- frames within the limits of a thread
 pub record AreSound (code : Code) (frames : List (Frame Value)) : Type 0 where
-  pub each : All (IsSoundFrame code) frames
+  pub each : EachIsSound code frames
   pub few : length frames ≤ most_frames
   pub small : values_of code frames ≤ most_values
 
@@ -34,7 +37,11 @@ abbrev pub IsSound : Code → Thread Value → Type 0
 IsSound code (Running top below) = AreSound code (top ∷ below)
 IsSound code _ = Unit {0}
 
--- slots that answer a request lie among the greatest number of them
+-- the slots that answer a request for so many lie among the greatest number of them
+abbrev pub LieAmongSlots : ℕ → Reply → Type 0
+LieAmongSlots k (reply.Slot (Some s)) = s + k ≤ most_slots
+LieAmongSlots k _ = Unit {0}
+
 abbrev pub SlotsAreThere : Action → Reply → Type 0
-SlotsAreThere (act.Alloc k) (reply.Slot (Some s)) = s + k ≤ most_slots
-SlotsAreThere _ _ = Unit {0}
+SlotsAreThere (act.Alloc k) answer = LieAmongSlots k answer
+SlotsAreThere _ answer = Unit {0}

@@ -58,6 +58,7 @@ fn blanks(alloc: Global, count: u32) -> Result<Vec<Value>, AllocError>
 }
 
 /// The slots of a frame that is opened: an argument for each parameter, and nothing in the others.
+#[tactic(auto, using(crate::proofs::Slots::slots_filled))]
 fn argument_slots(
     arguments: Vec<Value>,
     parameters: usize,

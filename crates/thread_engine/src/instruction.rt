@@ -7,7 +7,7 @@ ghost use Rattle.thread_engine.specs.inner.Frames.{frame_of};
 ghost use Rattle.thread_engine.specs.inner.Turns.{arguments_at};
 
 use crate::frame::Frame;
-use machine::{Code, CodePlace};
+use machine::{Code, CodeFunction, CodePlace};
 
 /// The instruction at a place of a function, if there is one.
 pub(crate) fn place_at(code: &Code, f: u32, place: u32) -> Option<&CodePlace>
@@ -29,6 +29,17 @@ pub(crate) fn frame_units(code: &Code, f: u32) -> u32
     }
 }
 
+/// The values of a frame of this function.
+fn function_size(function: &CodeFunction) -> u64
+    ensures value { result ≡ spec.size_in (Some function.now) }
+    ensures low { result < 2 ^ 34 }
+{
+    let registers = u64::from(function.registers);
+    let slots = u64::from(function.slots);
+    let units = u64::from(function.safe_units);
+    registers + slots + units
+}
+
 /// The values of a function's frames: registers, slots and units of safe locals.
 pub(crate) fn size_of(code: &Code, f: u32) -> u64
     ensures value { result ≡ spec.size_of code.now f }
@@ -36,9 +47,7 @@ pub(crate) fn size_of(code: &Code, f: u32) -> u64
 {
     match code.functions.get(f as usize) {
         None => 0,
-        Some(function) => {
-            u64::from(function.registers) + u64::from(function.slots) + u64::from(function.safe_units)
-        }
+        Some(function) => function_size(function),
     }
 }
 

@@ -3,6 +3,7 @@
 ghost use Rattle.std.specs.Prelude.{◌≡◌, ◌<◌, ◌≤◌, ◌+◌, ◌∷◌, ◌++◌, [], length};
 ghost use Rattle.machine.specs.Protected.{protected};
 ghost use Rattle.machine.specs.Threads as spec;
+ghost use Rattle.machine.specs.Values.{told_function};
 ghost use Rattle.thread_engine.specs.inner.Turns.{write_of};
 
 use crate::effect::Write;
@@ -55,7 +56,7 @@ impl Notes {
     pub fn len(&self) -> usize
         ensures { result ≡ length self.now }
     {
-        self.len
+        self.as_slice().len()
     }
 
     /// The notes in order.

@@ -1,6 +1,6 @@
 //! Where a thread stands, and where an answer leads it.
 
-ghost use Rattle.std.specs.Prelude.{◌≡◌, ◌<◌, ◌≤◌, ◌+◌, ◌∷◌, ◌++◌, [], length, map, take, Some, None, true, IfOk, OnOk, OnErr};
+ghost use Rattle.std.specs.Prelude.{◌≡◌, ◌<◌, ◌≤◌, ◌^◌, ◌++◌, [], length, map, take, Some, None, true, IfOk, OnOk, OnErr};
 ghost use Rattle.meaning.specs.Action.{Fits};
 ghost use Rattle.meaning.specs.declared.value.Value.{Value};
 ghost use Rattle.machine.specs.Frames as model;
@@ -137,7 +137,6 @@ fn tell_arguments(notes: &mut Notes, depth: u32, code: &Code, f: u32, arguments:
 
 impl State {
     /// A thread that is this far, with one frame.
-    #[tactic(auto, using(crate::proofs::Valid::sizes_are_small))]
     fn with_frame(alloc: Global, phase: Phase, top: Frame) -> Result<State, AllocError>
         requires { length_of (frame_of top) < 2 ^ 32 }
         ensures thread { IfOk result (λ s. (top_of s.stack ≡ frame_of top) × (s.stack.below.items ≡ []) × (s.phase ≡ phase)) }
@@ -148,6 +147,7 @@ impl State {
     }
 
     /// Thread 0, which stands in the entry function.
+    #[tactic(auto, using(crate::proofs::Valid::opened_is_small))]
     fn first(alloc: Global, code: &Code) -> Result<State, AllocError>
         requires { ValidCode code.now }
         ensures thread { IfOk result (λ s. thread_of s ≡ first_thread code.now 0) }
@@ -230,6 +230,7 @@ impl State {
     }
 
     /// The argument's word was read: the thread begins.
+    #[tactic(auto, using(crate::proofs::Valid::opened_is_small))]
     fn begin(
         &mut self,
         alloc: Global,
@@ -275,6 +276,7 @@ impl State {
     }
 
     /// Into a function, with what these registers have as arguments.
+    #[tactic(auto, using(crate::proofs::Valid::opened_is_small))]
     fn enter(
         &mut self,
         alloc: Global,
@@ -372,11 +374,11 @@ impl State {
                 (spec.shape_in code.now (top_of self.old.stack) (below_of self.old.stack)))) }
         ensures err { OnErr result (self.new ≡ self.old) }
     {
-        let top = &self.stack.top;
-        match place_at(code, top.function, top.place) {
+        let depth = self.stack.depth();
+        match place_at(code, self.stack.top.function, self.stack.top.place) {
             None => Ok(Notes::new()),
             Some(place) => {
-                let effect = effect_at(code, self.stack.depth(), top, answer, place);
+                let effect = effect_at(code, depth, &self.stack.top, answer, place);
                 self.apply(alloc, code, effect, arguments_at(place))
             }
         }
@@ -397,6 +399,7 @@ impl State {
     }
 
     /// Where the answer of an action that doesn't stop the thread leads it.
+    #[tactic(auto, using(crate::proofs::Effects::step_fits))]
     fn answered(
         &mut self,
         alloc: Global,
@@ -424,6 +427,7 @@ impl State {
     }
 
     /// Where the answer of its action leads the thread of this number. A halt stops it.
+    #[tactic(auto, using(crate::proofs::Effects::resume_by, crate::proofs::Effects::resume_halted))]
     pub(crate) fn resume(
         &mut self,
         alloc: Global,

@@ -42,6 +42,7 @@ impl Thread {
     /// # Errors
     ///
     /// `AllocError`, where no memory is left.
+    #[tactic(auto, using(crate::proofs::Preserved::opened_is_sound))]
     pub fn open(alloc: Global, code: &Code, number: u8) -> Result<Thread, AllocError>
         requires { ValidCode code.now }
         ensures opened { IfOk result (λ t. t ≡ record { number = number; thread = first_thread code.now number }) }
@@ -82,6 +83,7 @@ impl Thread {
     /// # Errors
     ///
     /// `AllocError`, where no memory is left for a new frame. The thread is as it was.
+    #[tactic(auto, using(crate::proofs::Preserved::turns_keep_sound))]
     pub fn resume(&mut self, code: &Code, answer: Reply) -> Result<Notes, AllocError>
         requires valid { ValidCode code.now }
         requires sound { IsSound code.now self.old.thread }

@@ -40,7 +40,7 @@ HasRoom s = most_frames ≤ vec_capacity s.below
 -- the top frame goes, if there is another below it
 abbrev pub LeavesBy : Bool → Stack → Stack → Type 0
 LeavesBy true old new = below_of old ≡ frames_of new
-LeavesBy false old new = (below_of old ≡ []) × (new ≡ old)
+LeavesBy false old new = below_of old ≡ []
 
 -- whether there are no frames
 abbrev pub IsBottomBy : Bool → List (model.Frame Value) → Type 0

@@ -33,6 +33,6 @@ pub record IsKept (s : State) : Type 0 where
   pub counts : CountsBy s.phase s.stack
 
 -- the state and the notes are what a turn is to give
-pub record Gives (s : State) (notes : List Note) (told : Told Value) : Type 0 where
+pub record Gives (s : State) (list : List Note) (told : Told Value) : Type 0 where
   pub thread : thread_of s ≡ told.thread
-  pub notes : notes ≡ told.notes
+  pub notes : list ≡ told.notes
