@@ -26,7 +26,7 @@ use Rattle.thread_engine.specs.Sound.{AreSound, IsSoundFrame, SlotsAreThere, mos
 use Rattle.thread_engine.specs.inner.Turns.{AddressesFit, EffectFits, LiesLow, StepFits, halt_of}
 use Rattle.thread_engine.proofs.Valid.{StandsIn, at_place, locals_are_within, places_are_low, stands_in, valid_function}
 
-both : (a b : Bool) → (a && b) ≡ true → (a ≡ true) × (b ≡ true)
+pub both : (a b : Bool) → (a && b) ≡ true → (a ≡ true) × (b ≡ true)
 both true b is = (refl, is)
 both false b is = absurd (cc)
 

@@ -90,7 +90,7 @@ entered_is_sound code top below f arguments sound room =
     let values : values_of code (top ∷ below) + size_of code f ≤ 65536 = leb-true _ _ tests.1 in
     let size : size_of code (opened protected code f arguments).function ≡ size_of code f = ap (size_of code) (opened_function code f arguments) in
     record {
-      each = (new_frame_is_sound code f arguments, was, sound.each.1);
+      each = (new_frame_is_sound code f arguments, (was, sound.each.1));
       few = omega (arith, frames);
       small = omega (arith, values, size);
     }

@@ -1,6 +1,6 @@
 -- The slots of a new frame: arguments, and nothing in the others. What is told of them is told of the arguments.
 use Rattle.std.proofs.Common.{◌≡◌, ℕ, zero, suc, ◌+◌, ◌-◌, ◌≤◌, ◌<◌, min, List, [], ◌∷◌, ◌++◌, length, take, replicate, slice_index_or, refl, sym, ap, ◌∙◌, arith}
-use Rattle.std.proofs.lemmas.List.{append-nil, append_assoc, length-take, take_min, take_more}
+use Rattle.std.proofs.lemmas.List.{append-nil, append_assoc, length-take, take_all, take_min, take_more}
 use Rattle.meaning.specs.declared.note.Note.{Note}
 use Rattle.meaning.specs.declared.value.Value.{Value}
 use Rattle.machine.specs.declared.code.CodeFunction.{CodeFunction}
@@ -88,3 +88,7 @@ told_are_arguments depth n p arguments =
 pub few_are_told : (n p : ℕ) (arguments : List Value) → p ≤ 8 → length (take n (take p arguments)) ≤ 8
 few_are_told n p arguments few =
     omega (arith, few, length-take n (take p arguments), length-take p arguments)
+
+-- all of them
+pub all_told : (depth n : ℕ) (values : List Value) → length values ≤ n → slots_told protected depth 0 (take n values) ≡ slots_told protected depth 0 values
+all_told depth n values all = ap (slots_told protected depth 0) (take_all n values all)

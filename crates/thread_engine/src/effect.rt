@@ -11,7 +11,7 @@ ghost use Rattle.machine.specs.Protected.{protected};
 ghost use Rattle.machine.specs.Shapes as shape;
 ghost use Rattle.machine.specs.Threads as thread;
 ghost use Rattle.thread_engine.specs.inner.Frames.{frame_of};
-ghost use Rattle.thread_engine.specs.inner.Turns.{AddressesFit, LiesLow, arguments_of, effect_of, write_of};
+ghost use Rattle.thread_engine.specs.inner.Turns.{AddressesFit, LiesLow, arguments_of, callee_of, effect_of, write_of};
 
 use crate::callee::Callee;
 use crate::frame::Frame;

@@ -30,7 +30,7 @@ pub(crate) struct Frame {
 }
 
 /// What stands at a place of a list, and 0 past its end.
-fn value_at(values: &[Value], at: u32) -> Value
+pub(crate) fn value_at(values: &[Value], at: u32) -> Value
     ensures { result ≡ slice_index_or values.now at (Value.Bare (pos 0)) }
 {
     match values.get(at as usize) {

@@ -7,6 +7,7 @@ ghost use Rattle.machine.specs.Values.{told_function};
 ghost use Rattle.thread_engine.specs.inner.Turns.{write_of};
 
 use crate::effect::Write;
+use crate::frame::value_at;
 use meaning::{Note, Place, Value};
 use std::marker::Model;
 use values::told_function;
@@ -109,13 +110,13 @@ impl Notes {
     }
 
     /// The arguments in the first slots of a frame of this depth: each told that is a function.
-    #[tactic(auto, using(crate::proofs::Slots::told_step))]
+    #[tactic(auto, using(crate::proofs::Slots::all_told))]
     pub(crate) fn tell_slots(&mut self, depth: u32, values: &[Value])
         requires { length self.old + length values.now ≤ 9 }
         ensures { self.new ≡ self.old ++ spec.slots_told protected depth 0 values.now }
     {
-        for (slot, value) in values.iter().enumerate() {
-            self.tell_slot(depth, slot as u32, *value);
+        for slot in 0..values.len() as u32 {
+            self.tell_slot(depth, slot, value_at(values, slot));
         }
     }
 }

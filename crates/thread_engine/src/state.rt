@@ -147,7 +147,6 @@ impl State {
     }
 
     /// Thread 0, which stands in the entry function.
-    #[tactic(auto, using(crate::proofs::Valid::opened_is_small))]
     fn first(alloc: Global, code: &Code) -> Result<State, AllocError>
         requires { ValidCode code.now }
         ensures thread { IfOk result (λ s. thread_of s ≡ first_thread code.now 0) }
@@ -230,7 +229,6 @@ impl State {
     }
 
     /// The argument's word was read: the thread begins.
-    #[tactic(auto, using(crate::proofs::Valid::opened_is_small))]
     fn begin(
         &mut self,
         alloc: Global,
@@ -399,7 +397,6 @@ impl State {
     }
 
     /// Where the answer of an action that doesn't stop the thread leads it.
-    #[tactic(auto, using(crate::proofs::Effects::step_fits))]
     fn answered(
         &mut self,
         alloc: Global,

@@ -17,7 +17,7 @@ order zero zero = inr (inr refl)
 order zero (suc n) = inl (omega arith)
 order (suc m) zero = inr (inl (omega arith))
 order (suc m) (suc n) =
-    elim order m n [
+    elim (order m n) [
       inl less ↦ inl (omega arith)
       | inr other ↦ elim other [ inl more ↦ inr (inl (omega arith)) | inr same ↦ inr (inr (ap suc same)) ]
     ]

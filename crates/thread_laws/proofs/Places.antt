@@ -5,6 +5,7 @@ use Rattle.std.proofs.lemmas.List.{length-set, length-replicate}
 use Rattle.core_ir.specs.declared.role.Role.{Role}
 use Rattle.core_ir.specs.declared.role.Role.TheVariants as role
 use Rattle.core_ir.specs.Flow.{HasRole, IsAmong, IsUnreached, Serves, Stands, Unbroken}
+use Rattle.core_ir.specs.Outline.{Outline}
 use Rattle.core_ir.specs.Order.{Behind, FrameFits as FrameRule, InStart, IsFramed, IsOrderedAt, IsOutsideFrames, KeepsFrame, NumbersFit}
 use Rattle.meaning.specs.Action.{Fits}
 use Rattle.meaning.specs.declared.action.Action.{Action}
@@ -46,7 +47,7 @@ use Rattle.thread_laws.proofs.Successors.{Found, IsFork, IsStartArg, IsTouch, Le
 module _ (slots : ℕ) (few : slots ≤ 1048576) (enough : 1026 ≤ slots) (code : Code) (c : CodeFunction) (valid : IsValidCodeFunction code c) where
   -- ---- the rules of a valid function at one of its places
 
-  ordered_at : (u : ℕ) (i : CodePlace) → slice_get c.body u ≡ Some i → IsOrderedAt (outlines c.body) u (outline_of_code i)
+  pub ordered_at : (u : ℕ) (i : CodePlace) → slice_get c.body u ≡ Some i → IsOrderedAt (outlines c.body) u (outline_of_code i)
   ordered_at u i here = valid.well_formed.ordered.each u (outline_of_code i) (stands_at c.body u i here)
 
   framed : 0 < length c.locals → IsFramed (outlines c.body)
@@ -54,7 +55,7 @@ module _ (slots : ℕ) (few : slots ≤ 1048576) (enough : 1026 ≤ slots) (code
       subst (λ (b : Bool). KeepsFrame b (outlines c.body)) (lt-ltb 0 (length c.locals) some) valid.well_formed.frame
 
   -- a function with locals enters its frame first
-  first_enters : 0 < length c.locals → (i : CodePlace) → slice_get c.body 0 ≡ Some i → i ≡ Enter
+  pub first_enters : 0 < length c.locals → (i : CodePlace) → slice_get c.body 0 ≡ Some i → i ≡ Enter
   first_enters some i here = enter_of i (role_there c.body 0 i role.Enter here (framed some).entered)
 
   framed_by : (b : Bool) → nat_lt 0 (length c.locals) ≡ b → KeepsFrame b (outlines c.body)
@@ -97,7 +98,7 @@ module _ (slots : ℕ) (few : slots ≤ 1048576) (enough : 1026 ≤ slots) (code
   drawn_is_object (Some id) drawn units = (drawn.0, omega (arith, drawn.1, units))
 
   module _ (f : Frame Value) (made : List ℕ) (good : IsGood slots code f made) (here : slice_get code.functions f.function ≡ Some c) where
-    units_here : frame_units code f.function ≡ c.frame_units
+    pub units_here : frame_units code f.function ≡ c.frame_units
     units_here = ap units_in here
 
     -- behind its first place a frame with locals has its object
@@ -224,14 +225,14 @@ module _ (slots : ℕ) (few : slots ≤ 1048576) (enough : 1026 ≤ slots) (code
   IsObjectWrite (ToObject id) = Unit {0}
   IsObjectWrite _ = ⊥
 
-  written_function : (w : Write Value) (f : Frame Value) → (written protected w f).function ≡ f.function
+  pub written_function : (w : Write Value) (f : Frame Value) → (written protected w f).function ≡ f.function
   written_function Nothing f = refl
   written_function (ToRegister d v) f = refl
   written_function (ToSlot s v) f = refl
   written_function (ToUnit unit at v) f = refl
   written_function (ToObject id) f = refl
 
-  written_place : (w : Write Value) (f : Frame Value) → (written protected w f).place ≡ f.place
+  pub written_place : (w : Write Value) (f : Frame Value) → (written protected w f).place ≡ f.place
   written_place Nothing f = refl
   written_place (ToRegister d v) f = refl
   written_place (ToSlot s v) f = refl
@@ -248,10 +249,10 @@ module _ (slots : ℕ) (few : slots ≤ 1048576) (enough : 1026 ≤ slots) (code
   written_object : (k : ℕ) (w : Write Value) (f : Frame Value) → k ≡ slots_for c.frame_units → WriteHas slots k w
       → IsObjectWrite w ⊎ IsDrawn slots c f.object
       → IsDrawn slots c (written protected w f).object
-  written_object k Nothing f size has object = elim object [ inl no ↦ absurd no | inr drawn ↦ drawn ]
-  written_object k (ToRegister d v) f size has object = elim object [ inl no ↦ absurd no | inr drawn ↦ drawn ]
-  written_object k (ToSlot s v) f size has object = elim object [ inl no ↦ absurd no | inr drawn ↦ drawn ]
-  written_object k (ToUnit unit at v) f size has object = elim object [ inl no ↦ absurd no | inr drawn ↦ drawn ]
+  written_object k Nothing f size has object = elim object [ inl other ↦ absurd other | inr is ↦ is ]
+  written_object k (ToRegister d v) f size has object = elim object [ inl other ↦ absurd other | inr is ↦ is ]
+  written_object k (ToSlot s v) f size has object = elim object [ inl other ↦ absurd other | inr is ↦ is ]
+  written_object k (ToUnit unit at v) f size has object = elim object [ inl other ↦ absurd other | inr is ↦ is ]
   written_object k (ToObject id) f size has object =
       (has.0, subst (λ (n : ℕ). id + n ≤ slots) size has.1)
 

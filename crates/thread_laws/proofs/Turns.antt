@@ -483,7 +483,7 @@ module _ (slots : ℕ) (few : slots ≤ 1048576) (enough : 1026 ≤ slots) (code
       let one : e ≡ d = cc in
       length-replicate e.registers (blank protected) ∙ ap (λ (x : CodeFunction). x.registers) one
 
-  new_is_good : (f : ℕ) (arguments : List Value) → Each (ValueFits slots) arguments → IsGood slots code (opened protected code f arguments) []
+  pub new_is_good : (f : ℕ) (arguments : List Value) → Each (ValueFits slots) arguments → IsGood slots code (opened protected code f arguments) []
   new_is_good f arguments fit =
       let o = slice_get code.functions f in
       let g : Frame Value = opened protected code f arguments in
@@ -495,7 +495,7 @@ module _ (slots : ℕ) (few : slots ≤ 1048576) (enough : 1026 ≤ slots) (code
         covers = λ d there. record { each = λ q p t h has serves low behind. absurd (omega (arith, first, low)) };
       }
 
-  new_is_prepared : (f : ℕ) (arguments : List Value) → IsPrepared code (opened protected code f arguments) 0
+  pub new_is_prepared : (f : ℕ) (arguments : List Value) → IsPrepared code (opened protected code f arguments) 0
   new_is_prepared f arguments =
       let o = slice_get code.functions f in
       let g : Frame Value = opened protected code f arguments in
