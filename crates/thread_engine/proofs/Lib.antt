@@ -4,3 +4,4 @@ pub mod Slots
 pub mod Valid
 pub mod Effects
 pub mod Preserved
+pub mod Resumed

@@ -83,7 +83,6 @@ impl Thread {
     /// # Errors
     ///
     /// `AllocError`, where no memory is left for a new frame. The thread is as it was.
-    #[tactic(auto, using(crate::proofs::Preserved::turns_keep_sound))]
     pub fn resume(&mut self, code: &Code, answer: Reply) -> Result<Notes, AllocError>
         requires valid { ValidCode code.now }
         requires sound { IsSound code.now self.old.thread }
