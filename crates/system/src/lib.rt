@@ -2,5 +2,9 @@
 //! from ordinary memory.
 #![tactic(auto)]
 
+mod machine;
 mod memories;
 mod record;
+mod turn;
+
+pub use machine::System;

@@ -1,0 +1,7 @@
+pub mod SameFunctions
+pub mod Counts
+pub mod Slots
+pub mod Valid
+pub mod Effects
+pub mod Preserved
+pub mod Resumed

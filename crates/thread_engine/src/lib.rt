@@ -1,0 +1,15 @@
+//! A thread of the protected machine: what it asks for in its next turn, and where an answer leads it.
+#![tactic(auto)]
+
+mod action;
+mod callee;
+mod effect;
+mod frame;
+mod instruction;
+mod notes;
+mod stack;
+mod state;
+mod thread;
+
+pub use notes::Notes;
+pub use thread::Thread;

@@ -1,0 +1,99 @@
+//! A thread as callers see it.
+
+ghost use Rattle.std.specs.Prelude.{◌≡◌, ◌↔◌, IfOk, OnErr, IsTrue};
+ghost use Rattle.meaning.specs.Action.{Fits};
+ghost use Rattle.machine.specs.Frames as model;
+ghost use Rattle.machine.specs.Logs.{first_thread};
+ghost use Rattle.machine.specs.Protected as spec;
+ghost use Rattle.machine.specs.ValidCode.{ValidCode};
+ghost use Rattle.thread_engine.specs.Sound.{IsSound, SlotsAreThere};
+
+use crate::notes::Notes;
+use crate::state::State;
+use machine::Code;
+use meaning::{Action, Reply};
+use std::alloc::{AllocError, Global};
+use std::marker::Model;
+
+/// A thread of the protected machine, by its number: thread 0 begins in the entry function, and each
+/// other waits for its start.
+#[derive(Debug, Drop)]
+pub struct Thread {
+    alloc: Global,
+    number: u8,
+    state: State,
+}
+
+impl Model for Thread {
+    ghost use Rattle.thread_engine.specs.State.{ThreadState};
+
+    ghost Value = { ThreadState };
+
+    ghost use Rattle.thread_engine.specs.inner.Views.{IsKept, thread_of};
+
+    ghost view = { λ t. record { number = t.number; thread = thread_of t.state } };
+
+    ghost invariant = { λ t. IsKept t.state };
+}
+
+impl Thread {
+    /// The thread of this number, before its first turn.
+    ///
+    /// # Errors
+    ///
+    /// `AllocError`, where no memory is left.
+    #[tactic(auto, using(crate::proofs::Preserved::opened_is_sound))]
+    pub fn open(alloc: Global, code: &Code, number: u8) -> Result<Thread, AllocError>
+        requires { ValidCode code.now }
+        ensures opened { IfOk result (λ t. t ≡ record { number = number; thread = first_thread code.now number }) }
+        ensures sound { IfOk result (λ t. IsSound code.now t.thread) }
+    {
+        let state = State::open(alloc, code, number)?;
+        Ok(Thread {
+            alloc,
+            number,
+            state,
+        })
+    }
+
+    /// Whether it has neither ended nor stopped.
+    pub fn is_live(&self) -> bool
+        ensures { result ≡ model.is_live self.now.thread }
+    {
+        self.state.is_live()
+    }
+
+    /// Whether its start was found; thread 0 has always begun.
+    pub fn has_begun(&self) -> bool
+        ensures { result ≡ model.has_begun self.now.thread }
+    {
+        self.state.has_begun()
+    }
+
+    /// What it asks for in its next turn.
+    pub fn next(&self, code: &Code) -> Action
+        requires { IsSound code.now self.now.thread }
+        ensures { result ≡ spec.next code.now self.now.number self.now.thread }
+    {
+        self.state.next(code, self.number)
+    }
+
+    /// Where the answer of its next action leads it, and what the turn tells.
+    ///
+    /// # Errors
+    ///
+    /// `AllocError`, where no memory is left for a new frame. The thread is as it was.
+    pub fn resume(&mut self, code: &Code, answer: Reply) -> Result<Notes, AllocError>
+        requires valid { ValidCode code.now }
+        requires sound { IsSound code.now self.old.thread }
+        requires fits { Fits (spec.next code.now self.old.number self.old.thread) answer }
+        requires there { SlotsAreThere (spec.next code.now self.old.number self.old.thread) answer }
+        ensures resumed { let action = spec.next code.now self.old.number self.old.thread in
+            let told = spec.resume code.now self.old.number self.old.thread action answer in
+            IfOk result (λ notes. (self.new ≡ record self.old { thread = told.thread }) × (notes ≡ told.notes)) }
+        ensures err { OnErr result (self.new ≡ self.old) }
+        ensures sound { IsSound code.now self.new.thread }
+    {
+        self.state.resume(self.alloc, code, self.number, answer)
+    }
+}
