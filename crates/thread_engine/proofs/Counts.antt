@@ -1,5 +1,5 @@
 -- The values of frames: what is written keeps their number, and the frames of a sound thread have those of their functions.
-use Rattle.std.proofs.Common.{◌≡◌, ℕ, ◌+◌, ◌<◌, Bool, true, ◌&&◌, nat_le, nat_lt, List, [], ◌∷◌, length, refl, sym, ap, ◌∙◌}
+use Rattle.std.proofs.Common.{◌≡◌, ℕ, ◌+◌, ◌<◌, Bool, ◌&&◌, nat_le, List, [], ◌∷◌, length, refl, sym, ap, ◌∙◌}
 use Rattle.std.proofs.lemmas.Bool.{lt-ltb}
 use Rattle.std.proofs.lemmas.List.{length-set}
 use Rattle.meaning.specs.declared.value.Value.{Value}
@@ -36,6 +36,6 @@ pub room_by_counts :
     → nat_le (used + size) 65536 ≡ has_room code frames f
 room_by_counts code frames f used size sound counted is few =
     let both : nat_le (used + size) 65536 ≡ nat_le (values_of code frames + size_of code f) 65536 =
-      ap (λ (n : ℕ). nat_le (n + size) 65536) (counted ∙ held_are_values code frames sound)
-      ∙ ap (λ (n : ℕ). nat_le (values_of code frames + n) 65536) is in
+    ap (λ (n : ℕ). nat_le (n + size) 65536) (counted ∙ held_are_values code frames sound)
+    ∙ ap (λ (n : ℕ). nat_le (values_of code frames + n) 65536) is in
     both ∙ ap (λ (b : Bool). b && nat_le (values_of code frames + size_of code f) 65536) (sym (lt-ltb (length frames) 4096 few))

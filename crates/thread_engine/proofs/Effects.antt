@@ -1,5 +1,5 @@
 -- What the effect of an instruction is, where its action doesn't stop the thread and is answered.
-use Rattle.std.proofs.Common.{◌≡◌, ℕ, ℤ, pos, negsuc, unwrap_or, ◌+◌, ◌*◌, ◌/◌, ◌%◌, ◌≤◌, ◌<◌, ◌^◌, Bool, true, false, ◌&&◌, if◌then◌else◌, nat_le, List, [], ◌∷◌, length, Option, Some, None, IfSome, slice_get, refl, sym, ap, ◌∙◌, subst, arith}
+use Rattle.std.proofs.Common.{◌≡◌, ℕ, ℤ, pos, negsuc, unwrap_or, ◌+◌, ◌*◌, ◌/◌, ◌≤◌, ◌<◌, ◌^◌, Bool, true, false, ◌&&◌, if◌then◌else◌, nat_le, List, ◌∷◌, length, Option, Some, None, IfSome, refl, ap, subst, arith}
 use Rattle.std.proofs.lemmas.Bool.{leb-true}
 use Rattle.meaning.specs.Action.{Fits}
 use Rattle.meaning.specs.declared.action.Action.{Action}
@@ -21,10 +21,10 @@ use Rattle.machine.specs.Protected.{action_by, action_of, allocate_action, calle
 use Rattle.machine.specs.Shapes as shape
 use Rattle.machine.specs.Shapes.{Shape, number_in, object_of, shape_of}
 use Rattle.machine.specs.Threads.{goes_on, has_room, place_at, stays, stops}
-use Rattle.machine.specs.ValidCode.{CodeFits, IsLocalOf, IsValidCodeFunction, ValidCode}
-use Rattle.thread_engine.specs.Sound.{AreSound, IsSoundFrame, SlotsAreThere, most_slots}
+use Rattle.machine.specs.ValidCode.{CodeFits, IsValidCodeFunction, ValidCode}
+use Rattle.thread_engine.specs.Sound.{AreSound, SlotsAreThere, most_slots}
 use Rattle.thread_engine.specs.inner.Turns.{AddressesFit, EffectFits, LiesLow, StepFits, halt_of}
-use Rattle.thread_engine.proofs.Valid.{StandsIn, at_place, locals_are_within, places_are_low, stands_in, valid_function}
+use Rattle.thread_engine.proofs.Valid.{at_place, locals_are_within, places_are_low, stands_in, valid_function}
 
 pub both : (a b : Bool) → (a && b) ≡ true → (a ≡ true) × (b ≡ true)
 both true b is = (refl, is)
@@ -180,16 +180,16 @@ pub step_fits :
 step_fits code t top below answer valid sound goes form there = record {
   low = λ i at. places_are_low code top.function top.place i valid at;
   addresses = λ i at.
-    let s = stands_in code top.function top.place i at in
-    let v = valid_function code top.function s.function valid s.there in
-    let is = at_instruction code t top below i at in
-    addresses_fit code s.function t top below answer i v sound.each.0.object
+      let s = stands_in code top.function top.place i at in
+      let v = valid_function code top.function s.function valid s.there in
+      let is = at_instruction code t top below i at in
+      addresses_fit code s.function t top below answer i v sound.each.0.object
       (at_place (CodeFits code s.function) s.function.body top.place i v.in_range s.at)
       (subst (λ (a : Action). Fits a answer) is form)
       (subst (λ (a : Action). SlotsAreThere a answer) is there);
   effect = λ i at.
-    let is = at_instruction code t top below i at in
-    effect_fits code t top below answer (shape_of protected (length below) top i)
+      let is = at_instruction code t top below i at in
+      effect_fits code t top below answer (shape_of protected (length below) top i)
       (subst (λ (a : Action). halt_of a ≡ None) is goes)
       (subst (λ (a : Action). SlotsAreThere a answer) is there);
 }

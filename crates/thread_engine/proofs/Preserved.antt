@@ -1,9 +1,7 @@
 -- A turn leaves a sound thread sound.
-use Rattle.std.proofs.Common.{◌≡◌, ℕ, zero, suc, ◌+◌, ◌≤◌, ◌<◌, Bool, true, false, ◌&&◌, nat_lt, nat_le, List, [], ◌∷◌, length, Option, Some, None, IfSome, refl, sym, ap, ◌∙◌, subst, arith}
+use Rattle.std.proofs.Common.{◌≡◌, ℕ, zero, suc, ◌+◌, ◌≤◌, ◌<◌, true, nat_lt, nat_le, List, [], ◌∷◌, length, Option, Some, None, IfSome, refl, sym, ap, ◌∙◌, subst, arith}
 use Rattle.std.proofs.lemmas.Bool.{leb-true, ltb-true}
 use Rattle.meaning.specs.Action.{Fits}
-use Rattle.meaning.specs.declared.action.Action.{Action}
-use Rattle.meaning.specs.declared.action.Action.TheVariants as act
 use Rattle.meaning.specs.declared.action.Reply.{Reply}
 use Rattle.meaning.specs.declared.value.Entry.{Entry}
 use Rattle.meaning.specs.declared.value.Stop.{Stop}
@@ -15,11 +13,11 @@ use Rattle.machine.specs.Frames.{Frame, Thread, Waiting, Starting, Running, Ende
 use Rattle.machine.specs.Logs.{first_thread}
 use Rattle.machine.specs.Protected.{answered, effect_of, found_entry, next, protected, protected_callee, resume, resumed_by, shape_at, start_by, started}
 use Rattle.machine.specs.Shapes.{shape_of}
-use Rattle.machine.specs.Threads.{applied, begins, has_room, leaves, opened, place_at, result_slot, result_write, size_of, Told, values_of, written}
+use Rattle.machine.specs.Threads.{applied, has_room, leaves, opened, place_at, result_slot, result_write, size_of, Told, values_of, written}
 use Rattle.machine.specs.Values.{loaded_entry}
 use Rattle.core_ir.specs.Typed.{start_type}
 use Rattle.machine.specs.ValidCode.{ValidCode}
-use Rattle.thread_engine.specs.Sound.{AreSound, IsSound, IsSoundFrame, SlotsAreThere, length_of, most_slots}
+use Rattle.thread_engine.specs.Sound.{AreSound, IsSound, IsSoundFrame, SlotsAreThere, most_slots}
 use Rattle.thread_engine.specs.inner.Turns.{EffectFits, StepFits, halt_of}
 use Rattle.thread_engine.proofs.Counts.{written_keeps_length}
 use Rattle.thread_engine.proofs.Effects.{both, resume_by, resume_halted, step_fits}
@@ -64,7 +62,7 @@ top_is_sound code w top below to fits sound =
     let moved : Frame Value = record top { place = to } in
     let was : IsSoundFrame code moved = record { size = sound.each.0.size; object = sound.each.0.object } in
     let small : values_of code (top ∷ below) ≡ values_of code (written protected w moved ∷ below) =
-      ap (λ (g : ℕ). size_of code g + values_of code below) (sym (written_function w moved)) in
+    ap (λ (g : ℕ). size_of code g + values_of code below) (sym (written_function w moved)) in
     record {
       each = (written_is_sound code w moved fits was, sound.each.1);
       few = sound.few;
@@ -168,7 +166,7 @@ answered_is_sound code t Waiting answer valid sound goes fits there = started_is
 answered_is_sound code t (Starting f) answer valid sound goes fits there = first_is_sound code f (loaded_entry (found_entry answer) ∷ []) valid
 answered_is_sound code t (Running top below) answer valid sound goes fits there =
     resumed_is_sound code top below answer (place_at code top.function top.place) refl sound
-      (step_fits code t top below answer valid sound goes fits there)
+    (step_fits code t top below answer valid sound goes fits there)
 answered_is_sound code t Ended answer valid sound goes fits there = tt
 answered_is_sound code t (Stopped why) answer valid sound goes fits there = tt
 
@@ -184,7 +182,7 @@ turned_by code t thread answer (Some why) halts valid sound fits there =
     subst (λ (told : Told Value). IsSound code told.thread) (sym (resume_halted code t thread (next code t thread) answer why halts)) tt
 turned_by code t thread answer None goes valid sound fits there =
     subst (λ (told : Told Value). IsSound code told.thread) (sym (resume_by code t thread (next code t thread) answer goes))
-      (answered_is_sound code t thread answer valid sound goes fits there)
+    (answered_is_sound code t thread answer valid sound goes fits there)
 
 -- a turn leaves a sound thread sound
 pub turns_keep_sound :

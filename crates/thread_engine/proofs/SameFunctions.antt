@@ -1,6 +1,6 @@
 -- When the types of two functions are the same, and when a thread can begin in a function.
 use Rattle.std.proofs.Common.{◌≡◌, ◌≢◌, Bool, true, false, List, [], ◌∷◌, length, slice_index_or, ◌&&◌, refl, sym, ap, ◌∙◌, arith}
-use Rattle.c_types.specs.declared.ty.Ty.{Ty, out-Ty, roll-Ty, roll-out-Ty, out-roll-Ty, map-Ty, fold-roll-Ty}
+use Rattle.c_types.specs.declared.ty.Ty.{Ty, out-Ty, roll-Ty, out-roll-Ty, map-Ty, fold-roll-Ty}
 use Rattle.c_types.specs.declared.ty.Ty.TheOpen.{Ty-F, FnTy-F}
 use Rattle.c_types.specs.declared.ty.Ty.TheVariants as ty
 use Rattle.c_types.specs.declared.ty.FnTy.{FnTy, out-FnTy, roll-FnTy, map-FnTy, fold-roll-FnTy}

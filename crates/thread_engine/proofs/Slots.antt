@@ -3,7 +3,6 @@ use Rattle.std.proofs.Common.{◌≡◌, ℕ, zero, suc, ◌+◌, ◌-◌, ◌�
 use Rattle.std.proofs.lemmas.List.{append-nil, append_assoc, length-take, take_all, take_min, take_more}
 use Rattle.meaning.specs.declared.note.Note.{Note}
 use Rattle.meaning.specs.declared.value.Value.{Value}
-use Rattle.machine.specs.declared.code.CodeFunction.{CodeFunction}
 use Rattle.machine.specs.Protected.{protected}
 use Rattle.machine.specs.Shapes.{blank}
 use Rattle.machine.specs.Threads.{slot_told, slots_told}
@@ -78,12 +77,12 @@ told_are_arguments depth n p arguments =
     let given = take n (take p arguments) in
     let more = n - length (take p arguments) in
     let filled : take n (take p arguments ++ replicate n (blank protected)) ≡ given ++ replicate more (blank protected) =
-      filled_up n n (take p arguments) (blank protected) (omega arith) in
+    filled_up n n (take p arguments) (blank protected) (omega arith) in
     sym (
-      ap (slots_told protected depth 0) filled
-      ∙ told_append depth 0 given (replicate more (blank protected))
-      ∙ ap (λ (r : List Note). slots_told protected depth 0 given ++ r) (told_blanks depth (0 + length given) more)
-      ∙ append-nil (slots_told protected depth 0 given))
+    ap (slots_told protected depth 0) filled
+    ∙ told_append depth 0 given (replicate more (blank protected))
+    ∙ ap (λ (r : List Note). slots_told protected depth 0 given ++ r) (told_blanks depth (0 + length given) more)
+    ∙ append-nil (slots_told protected depth 0 given))
 
 pub few_are_told : (n p : ℕ) (arguments : List Value) → p ≤ 8 → length (take n (take p arguments)) ≤ 8
 few_are_told n p arguments few =

@@ -1,5 +1,5 @@
 -- What valid code says of places, functions and their frames.
-use Rattle.std.proofs.Common.{◌≡◌, ℕ, zero, suc, ◌+◌, ◌*◌, ◌≤◌, ◌<◌, ◌^◌, min, Bool, true, false, if◌then◌else◌, List, [], ◌∷◌, ◌++◌, length, take, replicate, Option, Some, None, All, slice_get, slice_index_or, refl, sym, ap, ◌∙◌, subst, arith}
+use Rattle.std.proofs.Common.{◌≡◌, ℕ, zero, suc, ◌+◌, ◌≤◌, ◌<◌, Bool, true, false, if◌then◌else◌, List, [], ◌∷◌, ◌++◌, length, take, replicate, Option, Some, None, All, slice_get, slice_index_or, refl, subst, arith}
 use Rattle.std.proofs.lemmas.List.{length-append, length-replicate, length-take}
 use Rattle.c_types.specs.declared.ty.FnTy.{out-FnTy}
 use Rattle.meaning.specs.declared.value.Value.{Value}
@@ -7,13 +7,12 @@ use Rattle.machine.specs.declared.code.Code.{Code}
 use Rattle.machine.specs.declared.code.CodeFunction.{CodeFunction}
 use Rattle.machine.specs.declared.code.CodeLocal.{CodeLocal}
 use Rattle.machine.specs.declared.code.CodePlace.{CodePlace}
-use Rattle.machine.specs.Frames.{Frame}
 use Rattle.machine.specs.Protected.{protected}
 use Rattle.machine.specs.Shapes.{blank}
-use Rattle.machine.specs.Stands.{safe_part, safe_units}
+use Rattle.machine.specs.Stands.{safe_units}
 use Rattle.machine.specs.Threads.{argument_slots, body_in, opened, opened_in, place_at, size_in, size_of}
-use Rattle.machine.specs.ValidCode.{CodeFits, CodeLocalsLie, IsValidCodeFunction, ValidCode, code_local_units}
-use Rattle.thread_engine.specs.Sound.{IsSoundFrame, length_of}
+use Rattle.machine.specs.ValidCode.{CodeLocalsLie, IsValidCodeFunction, ValidCode, code_local_units}
+use Rattle.thread_engine.specs.Sound.{length_of}
 
 -- ---- lists
 
@@ -63,9 +62,16 @@ size_by (Some c) few = few c refl
 pub sizes_are_small : (code : Code) (f : ℕ) → ValidCode code → size_of code f ≤ 18432
 sizes_are_small code f valid =
     size_by (slice_get code.functions f) (λ c there.
-      let v = valid_function code f c valid there in
-      omega (arith, v.within_limits.registers, v.within_limits.slots, v.within_limits.frame_units,
-        v.frame_is_its_locals, v.safe_units_are, safe_units_low c.locals))
+    let v = valid_function code f c valid there in
+    omega (
+      arith,
+      v.within_limits.registers,
+      v.within_limits.slots,
+      v.within_limits.frame_units,
+      v.frame_is_its_locals,
+      v.safe_units_are,
+      safe_units_low c.locals,
+    ))
 
 -- ---- places
 
@@ -117,18 +123,24 @@ locals_are_within code c v l valid there =
 argument_slots_length : (c : CodeFunction) (arguments : List Value) → length (argument_slots protected c arguments) ≡ c.slots
 argument_slots_length c arguments =
     let given = take (length (out-FnTy c.ty).params) arguments in
-    omega (arith,
+    omega (
+      arith,
       length-take c.slots (given ++ replicate c.slots (blank protected)),
       length-append given (replicate c.slots (blank protected)),
-      length-replicate c.slots (blank protected))
+      length-replicate c.slots (blank protected),
+    )
 
 opened_by :
     (o : Option CodeFunction) (f : ℕ) (arguments : List Value)
     → length_of (opened_in protected o f arguments) ≡ size_in o
 opened_by None f arguments = refl
 opened_by (Some c) f arguments =
-    omega (arith, length-replicate c.registers (blank protected), argument_slots_length c arguments,
-      length-replicate c.safe_units (blank protected))
+    omega (
+      arith,
+      length-replicate c.registers (blank protected),
+      argument_slots_length c arguments,
+      length-replicate c.safe_units (blank protected),
+    )
 
 opened_function_by : (o : Option CodeFunction) (f : ℕ) (arguments : List Value) → (opened_in protected o f arguments).function ≡ f
 opened_function_by None f arguments = refl

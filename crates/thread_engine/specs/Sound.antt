@@ -1,12 +1,12 @@
 -- Which threads a turn may be taken of, and which answers they may be given.
-use Rattle.std.specs.Prelude.{ℕ, ◌≡◌, ◌+◌, ◌≤◌, List, [], ◌∷◌, length, Option, Some, None, IfSome}
+use Rattle.std.specs.Prelude.{ℕ, ◌≡◌, ◌+◌, ◌≤◌, List, [], ◌∷◌, length, Some, IfSome}
 use Rattle.meaning.specs.declared.action.Action.{Action}
 use Rattle.meaning.specs.declared.action.Action.TheVariants as act
 use Rattle.meaning.specs.declared.action.Reply.{Reply}
 use Rattle.meaning.specs.declared.action.Reply.TheVariants as reply
 use Rattle.meaning.specs.declared.value.Value.{Value}
 use Rattle.machine.specs.declared.code.Code.{Code}
-use Rattle.machine.specs.Frames.{Frame, Thread, Waiting, Starting, Running, Ended, Stopped}
+use Rattle.machine.specs.Frames.{Frame, Thread, Running}
 use Rattle.machine.specs.Threads.{most_frames, most_values, size_of, values_of}
 
 -- the greatest number of slots

@@ -56,7 +56,7 @@ fn action_at(code: &Code, thread: u8, stack: &Stack, place: &CodePlace) -> Actio
     requires counted { stack.now.used ≡ held (frames_of stack.now) }
     ensures { let depth = length (below_of stack.now) in
         result ≡ spec.action_of code.now thread (top_of stack.now) (below_of stack.now)
-            (shape.shape_of protected depth (top_of stack.now) place.now) }
+        (shape.shape_of protected depth (top_of stack.now) place.now) }
 {
     let top = &stack.top;
     match place {
@@ -72,7 +72,10 @@ fn action_at(code: &Code, thread: u8, stack: &Stack, place: &CodePlace) -> Actio
             unless_unit(*unit, load_action(*kind, top.register(*p)))
         }
         CodePlace::Store { p, a, kind, unit } => {
-            unless_unit(*unit, store_action(*kind, top.register(*p), top.register(*a)))
+            unless_unit(
+                *unit,
+                store_action(*kind, top.register(*p), top.register(*a)),
+            )
         }
         CodePlace::Call { f, .. } => call_action(code, stack, *f),
         CodePlace::CallInd { c, ty, .. } => {
@@ -110,7 +113,7 @@ fn action_at(code: &Code, thread: u8, stack: &Stack, place: &CodePlace) -> Actio
 fn binary_action(top: &Frame, op: Operator, a: u32, b: u32) -> Action
     ensures { (code : Code) (thread d : ℕ) (below : List (model.Frame Value)) → result
         ≡ spec.action_of code thread (frame_of top.now) below (shape.defines_number protected d
-            (number.computed op (shape.number_in protected (frame_of top.now) a) (shape.number_in protected (frame_of top.now) b))) }
+        (number.computed op (shape.number_in protected (frame_of top.now) a) (shape.number_in protected (frame_of top.now) b))) }
 {
     match computed(op, top.number_in(a), top.number_in(b)) {
         None => Action::Halt(Stop::Divide),
@@ -274,7 +277,10 @@ fn free_action(pointer: Value) -> Action
     match pointer {
         Value::Bare(_) => Action::Own,
         Value::Based {
-            value, lower, id, ..
+            value,
+            lower,
+            id,
+            ..
         } => free_based(value, lower, id),
         Value::Code(_) => Action::Halt(Stop::Failed(Check::BadFree)),
     }

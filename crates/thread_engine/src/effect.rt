@@ -27,38 +27,20 @@ use values::{
 #[derive(Clone, Copy, Debug)]
 pub(crate) enum Write {
     Nothing,
-    ToRegister {
-        d: u32,
-        value: Value,
-    },
-    ToSlot {
-        s: u32,
-        value: Value,
-    },
+    ToRegister { d: u32, value: Value },
+    ToSlot { s: u32, value: Value },
     /// A unit of a safe local, and its address.
-    ToUnit {
-        unit: u32,
-        at: u32,
-        value: Value,
-    },
-    ToObject {
-        id: u32,
-    },
+    ToUnit { unit: u32, at: u32, value: Value },
+    ToObject { id: u32 },
 }
 
 /// What an answered instruction does. The arguments of a call stand in the registers that it names.
 #[derive(Clone, Copy, Debug)]
 pub(crate) enum Effect {
     Stops(Stop),
-    Goes {
-        to: u32,
-        write: Write,
-    },
+    Goes { to: u32, write: Write },
     /// A new frame of a function; an indirect call also says where its pointer was read.
-    Enters {
-        f: u32,
-        through: Option<Place>,
-    },
+    Enters { f: u32, through: Option<Place> },
     Leaves(Value),
 }
 
@@ -102,7 +84,10 @@ pub(crate) fn effect_at(
             top.defines(*d, Value::Bare(computed_one(*op, top.number_in(*a))))
         }
         CodePlace::PtrAdd { d, p, i, s } => {
-            top.defines(*d, moved_value(top.register(*p), span(top.number_in(*i), *s)))
+            top.defines(
+                *d,
+                moved_value(top.register(*p), span(top.number_in(*i), *s)),
+            )
         }
         CodePlace::PtrConst { d, p, k } => top.defines(*d, moved_value(top.register(*p), *k)),
         CodePlace::Cast { d, a, from, to } => {
@@ -253,7 +238,7 @@ impl Frame {
         requires { self.now.place < 65536 }
         ensures { (code : Code) (answer : Reply) (arguments : List Value) → effect_of arguments result
             ≡ spec.effect_of code (frame_of self.now) answer
-                (shape.defines_number protected d (computed op (shape.number_in protected (frame_of self.now) a) (shape.number_in protected (frame_of self.now) b))) }
+            (shape.defines_number protected d (computed op (shape.number_in protected (frame_of self.now) a) (shape.number_in protected (frame_of self.now) b))) }
     {
         match computed(op, self.number_in(a), self.number_in(b)) {
             None => Effect::Stops(Stop::Divide),

@@ -13,3 +13,4 @@ mod thread;
 
 pub use notes::Notes;
 pub use thread::Thread;
+pub use thread_laws::threads_ask_what_fits;

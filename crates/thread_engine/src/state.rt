@@ -96,7 +96,10 @@ fn result_write(slot: Option<u32>, value: Value) -> Write
 fn values_in(alloc: Global, frame: &Frame, registers: &[u32]) -> Result<Vec<Value>, AllocError>
     ensures { IfOk result (λ values. values.items ≡ map (shape.register protected (frame_of frame.now)) registers.now) }
 {
-    registers.iter().map(|register| frame.register(*register)).collect(alloc)
+    registers
+        .iter()
+        .map(|register| frame.register(*register))
+        .collect(alloc)
 }
 
 /// A new frame of a function.
@@ -130,7 +133,10 @@ fn tell_arguments(notes: &mut Notes, depth: u32, code: &Code, f: u32, arguments:
     ensures { notes.new ≡ notes.old ++ thread.slots_told protected depth 0 (thread.opened protected code.now f arguments.now).slots }
 {
     if let Some(function) = code.functions.get(f as usize) {
-        let told = first(first(arguments, function.ty.params.len()), function.slots as usize);
+        let told = first(
+            first(arguments, function.ty.params.len()),
+            function.slots as usize,
+        );
         notes.tell_slots(depth, told);
     }
 }
@@ -292,7 +298,7 @@ impl State {
         ensures kept { IsKept self.new }
         ensures gives { let arguments = map (shape.register protected (top_of self.old.stack)) registers.now in
             IfOk result (λ notes. Gives self.new notes
-                (thread.enters protected code.now (top_of self.old.stack) (below_of self.old.stack) f arguments through)) }
+            (thread.enters protected code.now (top_of self.old.stack) (below_of self.old.stack) f arguments through)) }
         ensures err { OnErr result (self.new ≡ self.old) }
     {
         let arguments = values_in(alloc, &self.stack.top, registers)?;
@@ -348,7 +354,7 @@ impl State {
         ensures kept { IsKept self.new }
         ensures gives { let arguments = map (shape.register protected (top_of self.old.stack)) registers.now in
             IfOk result (λ notes. Gives self.new notes
-                (thread.applied protected code.now (top_of self.old.stack) (below_of self.old.stack) (effect_of arguments effect))) }
+            (thread.applied protected code.now (top_of self.old.stack) (below_of self.old.stack) (effect_of arguments effect))) }
         ensures err { OnErr result (self.new ≡ self.old) }
     {
         match effect {
@@ -369,7 +375,7 @@ impl State {
         ensures kept { IsKept self.new }
         ensures gives { IfOk result (λ notes. Gives self.new notes
             (spec.resumed_by code.now (top_of self.old.stack) (below_of self.old.stack) answer
-                (spec.shape_in code.now (top_of self.old.stack) (below_of self.old.stack)))) }
+            (spec.shape_in code.now (top_of self.old.stack) (below_of self.old.stack)))) }
         ensures err { OnErr result (self.new ≡ self.old) }
     {
         let depth = self.stack.depth();

@@ -18,7 +18,7 @@ order zero (suc n) = inl (omega arith)
 order (suc m) zero = inr (inl (omega arith))
 order (suc m) (suc n) =
     elim (order m n) [
-      inl less ↦ inl (omega arith)
+      | inl less ↦ inl (omega arith)
       | inr other ↦ elim other [ inl more ↦ inr (inl (omega arith)) | inr same ↦ inr (inr (ap suc same)) ]
     ]
 

@@ -94,7 +94,7 @@ module _ (slots : ℕ) (few : slots ≤ 1048576) (enough : 1026 ≤ slots) where
       object_fits slots address units 2 kept (omega (arith, in_range.to)) few (omega arith) (omega arith)
   shape_fits code c depth f (AddrL d v offset units kept) most in_range object fits =
       object_fits slots (64 * object_of protected f + offset) units (object_of protected f) kept
-        (omega (arith, object.0)) few (omega (arith, object.1)) object.2
+      (omega (arith, object.0)) few (omega (arith, object.1)) object.2
   shape_fits code c depth f (AddrF d g) most in_range object fits = omega arith
   shape_fits code c depth f (GetLocal d s) most in_range object fits = all_read (ValueFits slots) f.slots s (Bare (pos 0)) fits.slots_fit tt
   shape_fits code c depth f (SetLocal s a) most in_range object fits = register_fits slots f a fits
@@ -310,8 +310,8 @@ module _ (slots : ℕ) (few : slots ≤ 1048576) (enough : 1026 ≤ slots) where
   slot_has (pos n) s true is form fits =
       let tests = both (nat_le 1 n) (nat_le n 16384) is in
       object_fits slots (64 * s) (low_word (pos n)) s true
-        (omega (arith, fits.1)) few (omega (arith, fits.0))
-        (omega (arith, fits.1, leb-true 1 n tests.0, leb-true n 16384 tests.1))
+      (omega (arith, fits.1)) few (omega (arith, fits.0))
+      (omega (arith, fits.1, leb-true 1 n tests.0, leb-true n 16384 tests.1))
   slot_has (negsuc n) s true is form fits = absurd (cc)
   slot_has n s false is form fits = absurd form
 

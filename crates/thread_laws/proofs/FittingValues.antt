@@ -167,7 +167,7 @@ opened_fits_by slots (Some c) f arguments fit =
     record {
       registers = all_replicate P c.registers (blank protected) tt;
       slots_fit = all_take P c.slots (given ++ replicate c.slots (blank protected))
-        (all_append P given (replicate c.slots (blank protected))
+          (all_append P given (replicate c.slots (blank protected))
           (all_take P (length (out-FnTy c.ty).params) arguments fit)
           (all_replicate P c.slots (blank protected) tt));
       units = all_replicate P c.safe_units (blank protected) tt;

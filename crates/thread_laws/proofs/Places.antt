@@ -77,7 +77,7 @@ module _ (slots : ℕ) (few : slots ≤ 1048576) (enough : 1026 ≤ slots) (code
   one_server : (s q u r : ℕ) → Serves (outlines c.body) 0 s u r → Serves (outlines c.body) 0 q u r → q ≡ s
   one_server s q u r one other =
       elim (order q s) [
-        inl less ↦ absurd (other.nearest s one.by one.there less one.before one.defines)
+        | inl less ↦ absurd (other.nearest s one.by one.there less one.before one.defines)
         | inr (inl more) ↦ absurd (one.nearest q other.by other.there more other.before other.defines)
         | inr (inr same) ↦ same
       ]
@@ -105,11 +105,11 @@ module _ (slots : ℕ) (few : slots ≤ 1048576) (enough : 1026 ≤ slots) (code
     drawn_at : (i : CodePlace) → slice_get c.body f.place ≡ Some i → 0 < length c.locals → (i ≡ Enter → ⊥) → IsDrawn slots c f.object
     drawn_at i at some other =
         elim (order 0 f.place) [
-          inl behind ↦ good.object c here some behind
+          | inl behind ↦ good.object c here some behind
           | inr rest ↦ elim rest [
-              inl less ↦ absurd (omega (arith, less))
-              | inr first ↦ absurd (other (first_enters some i (ap (slice_get c.body) first ∙ at)))
-            ]
+            | inl less ↦ absurd (omega (arith, less))
+            | inr first ↦ absurd (other (first_enters some i (ap (slice_get c.body) first ∙ at)))
+          ]
         ]
 
     object_fits_at : (i : CodePlace) → slice_get c.body f.place ≡ Some i → CodeFits code c i → ObjectFits slots few enough f i
@@ -151,7 +151,7 @@ module _ (slots : ℕ) (few : slots ≤ 1048576) (enough : 1026 ≤ slots) (code
         → ActionFits slots (action_of code t f below (shape_of protected (length below) f i))
     asks_fitting t below i at most ready =
         action_fits slots few enough code t f below (shape_of protected (length below) f i)
-          (shape_fits_at (length below) i at most) (ready_at (length below) i at ready)
+        (shape_fits_at (length below) i at most) (ready_at (length below) i at ready)
 
   -- ---- covers
 
@@ -176,23 +176,23 @@ module _ (slots : ℕ) (few : slots ≤ 1048576) (enough : 1026 ≤ slots) (code
       → Covers c to more
   covers_behind x to w i made more at leads covers new keeps = record {
     each = λ q p t g has serves before behind.
-      elim leads [
-        inl next ↦
-          elim (order q x) [
-            inl less ↦ keeps q p t g has serves behind (covers.each q p t g has serves less (omega (arith, next, behind)))
-            | inr rest ↦ elim rest [
-                inl more' ↦ absurd (omega (arith, more', next, before))
-                | inr same ↦ new q p t g has serves same
+        elim leads [
+          | inl next ↦
+              elim (order q x) [
+                | inl less ↦ keeps q p t g has serves behind (covers.each q p t g has serves less (omega (arith, next, behind)))
+                | inr rest ↦ elim rest [
+                  | inl more' ↦ absurd (omega (arith, more', next, before))
+                  | inr same ↦ new q p t g has serves same
+                ]
               ]
-          ]
-        | inr other ↦ elim other [
-            inl jump ↦
-              let between = unbroken_use q p t g has serves x to (jumps_at c.body x to i at jump) before behind in
-              keeps q p t g has serves behind (covers.each q p t g has serves between.0 (omega (arith, between.1)))
+          | inr other ↦ elim other [
+            | inl jump ↦
+                let between = unbroken_use q p t g has serves x to (jumps_at c.body x to i at jump) before behind in
+                keeps q p t g has serves behind (covers.each q p t g has serves between.0 (omega (arith, between.1)))
             | inr waits ↦
-              keeps q p t g has serves behind (covers.each q p t g has serves (omega (arith, waits.0, before)) (omega (arith, waits.0, behind)))
+                keeps q p t g has serves behind (covers.each q p t g has serves (omega (arith, waits.0, before)) (omega (arith, waits.0, behind)))
           ]
-      ];
+        ];
   }
 
   -- ---- frames behind an instruction
@@ -211,14 +211,14 @@ module _ (slots : ℕ) (few : slots ≤ 1048576) (enough : 1026 ≤ slots) (code
     fits = fits;
     registers = λ d there. registers ∙ good.registers d (ap (slice_get code.functions) (sym same) ∙ there);
     object = λ d there some behind.
-      let is : Some c ≡ Some d = sym here ∙ ap (slice_get code.functions) (sym same) ∙ there in
-      let one : c ≡ d = cc in
-      subst (λ (x : CodeFunction). IsDrawn slots x g.object) one
+        let is : Some c ≡ Some d = sym here ∙ ap (slice_get code.functions) (sym same) ∙ there in
+        let one : c ≡ d = cc in
+        subst (λ (x : CodeFunction). IsDrawn slots x g.object) one
         (object (subst (λ (x : CodeFunction). 0 < length x.locals) (sym one) some) behind);
     covers = λ d there.
-      let is : Some c ≡ Some d = sym here ∙ ap (slice_get code.functions) (sym same) ∙ there in
-      let one : c ≡ d = cc in
-      subst (λ (x : CodeFunction). Covers x g.place more) one covers;
+        let is : Some c ≡ Some d = sym here ∙ ap (slice_get code.functions) (sym same) ∙ there in
+        let one : c ≡ d = cc in
+        subst (λ (x : CodeFunction). Covers x g.place more) one covers;
   }
 
   abbrev pub IsObjectWrite : Write Value → Type 0
@@ -270,10 +270,10 @@ module _ (slots : ℕ) (few : slots ≤ 1048576) (enough : 1026 ≤ slots) (code
       let moved : Frame Value = record f { place = to } in
       let place : (written protected w moved).place ≡ to = written_place w moved in
       good_like f (written protected w moved) made more good here (written_function w moved)
-        (written_fits slots k w moved has (placed_fits slots f to good.fits))
-        (written_registers w moved)
-        (λ some behind. written_object k w moved size has (object some (subst (λ (n : ℕ). 0 < n) place behind)))
-        (subst (λ (n : ℕ). Covers c n more) (sym place) covers)
+      (written_fits slots k w moved has (placed_fits slots f to good.fits))
+      (written_registers w moved)
+      (λ some behind. written_object k w moved size has (object some (subst (λ (n : ℕ). 0 < n) place behind)))
+      (subst (λ (n : ℕ). Covers c n more) (sym place) covers)
 
   -- ---- where the next instruction is prepared
 
@@ -290,15 +290,15 @@ module _ (slots : ℕ) (few : slots ≤ 1048576) (enough : 1026 ≤ slots) (code
       → (before ≡ x) × (role_of i ≡ r)
   comes_from x to before w i next r at there leads moves is has unreached =
       elim leads [
-        inl step ↦
-          let same : before ≡ x = omega (arith, is, step) in
-          (same, role_there c.body x i r at (subst (λ (k : ℕ). HasRole (outlines c.body) 0 k r) same has))
+        | inl step ↦
+            let same : before ≡ x = omega (arith, is, step) in
+            (same, role_there c.body x i r at (subst (λ (k : ℕ). HasRole (outlines c.body) 0 k r) same has))
         | inr other ↦ elim other [
-            inl jump ↦ absurd (unreached x (jumps_at c.body x to i at jump))
-            | inr waits ↦
+          | inl jump ↦ absurd (unreached x (jumps_at c.body x to i at jump))
+          | inr waits ↦
               let same : i ≡ next = one_instruction c.body x i next at (ap (slice_get c.body) (sym waits.0) ∙ there) in
               absurd (moves (subst Waits same waits.1))
-          ]
+        ]
       ]
 
   abbrev pub credit_of : CodePlace → ℕ
@@ -321,17 +321,17 @@ module _ (slots : ℕ) (few : slots ≤ 1048576) (enough : 1026 ≤ slots) (code
       defines = unit.serves.defines;
       before = omega (arith, unit.serves.before);
       nearest = λ k o stands behind low.
-        elim (order k x) [
-          inl less ↦ unit.serves.nearest k o stands behind less
-          | inr rest ↦ elim rest [
-              inl more ↦ absurd (omega (arith, more, low))
+          elim (order k x) [
+            | inl less ↦ unit.serves.nearest k o stands behind less
+            | inr rest ↦ elim rest [
+              | inl more ↦ absurd (omega (arith, more, low))
               | inr same ↦ λ defines.
-                let f = found c.body k o stands in
-                let one : f.instruction ≡ i = one_instruction c.body x f.instruction i (ap (slice_get c.body) (sym same) ∙ f.there) at in
-                let other : None ≡ Some p = sym none ∙ ap defined (sym one) ∙ ap (λ (x : Outline). x.defined) f.is ∙ defines in
-                cc
+                  let f = found c.body k o stands in
+                  let one : f.instruction ≡ i = one_instruction c.body x f.instruction i (ap (slice_get c.body) (sym same) ∙ f.there) at in
+                  let other : None ≡ Some p = sym none ∙ ap defined (sym one) ∙ ap (λ (x : Outline). x.defined) f.is ∙ defines in
+                  cc
             ]
-        ];
+          ];
     };
     address = unit.address;
     there = unit.there;
@@ -397,20 +397,21 @@ module _ (slots : ℕ) (few : slots ≤ 1048576) (enough : 1026 ≤ slots) (code
       let touch = touch_of i p before.1 in
       let here : slice_get c.body top.place ≡ Some (Touch p touch.class touch.marked) = at ∙ ap (λ (x : CodePlace). Some x) touch.is in
       let sensitive : IsSensitiveTouch (Touch p touch.class touch.marked) =
-        valid.touched top.place (Touch p touch.class touch.marked) access k here
-          (ap (λ (n : ℕ). slice_get c.body (suc n)) (sym before.0) ∙ ap (slice_get c.body) (sym behind.next) ∙ there) kind kept in
+      valid.touched top.place (Touch p touch.class touch.marked) access k here
+      (ap (λ (n : ℕ). slice_get c.body (suc n)) (sym before.0) ∙ ap (slice_get c.body) (sym behind.next) ∙ there) kind kept in
       let nothing : w ≡ Nothing = answer_writes top (Failed Dead) answer to w
-        (ap (λ (x : CodePlace). effect_of code top answer (shape_of protected (length below) top x)) (sym touch.is) ∙ effect) in
+      (ap (λ (x : CodePlace). effect_of code top answer (shape_of protected (length below) top x)) (sym touch.is) ∙ effect) in
       let tests : halts (if touch.marked then act.Own else touch_action touch.class (register protected top p)) ≡ false =
-        ap (λ (x : CodePlace). halts (action_of code t top below (shape_of protected (length below) top x))) (sym touch.is) ∙ goes in
+      ap (λ (x : CodePlace). halts (action_of code t top below (shape_of protected (length below) top x))) (sym touch.is) ∙ goes in
       let plain : touch.marked ≡ true → ⊥ = λ is.
-        let says : SaysWhere c top.place (Touch p touch.class true) =
-          valid.places top.place (Touch p touch.class true) (here ∙ ap (λ (b : Bool). Some (Touch p touch.class b)) is) in
-        unmarked says.0 (subst (λ (n : ℕ). IsUnit (outlines c.body) c.locals n p says.0) (ap suc (sym before.0) ∙ sym behind.next)
-          (unit_moves top.place p says.0 (Touch p touch.class touch.marked) here refl says.1)) in
-      (subst (λ (x : Write Value). IsInside (register protected (written protected x (record top { place = to })) p)) (sym nothing)
-        (tested (Touch p touch.class touch.marked) p touch.class touch.marked (register protected top p) refl sensitive plain tests),
-       subst (λ (x : CodePlace). 1 ≤ credit_of x) (sym touch.is) (omega arith))
+      let says : SaysWhere c top.place (Touch p touch.class true) =
+      valid.places top.place (Touch p touch.class true) (here ∙ ap (λ (b : Bool). Some (Touch p touch.class b)) is) in
+      unmarked says.0 (subst (λ (n : ℕ). IsUnit (outlines c.body) c.locals n p says.0) (ap suc (sym before.0) ∙ sym behind.next)
+      (unit_moves top.place p says.0 (Touch p touch.class touch.marked) here refl says.1)) in (
+        subst (λ (x : Write Value). IsInside (register protected (written protected x (record top { place = to })) p)) (sym nothing)
+            (tested (Touch p touch.class touch.marked) p touch.class touch.marked (register protected top p) refl sensitive plain tests),
+        subst (λ (x : CodePlace). 1 ≤ credit_of x) (sym touch.is) (omega arith),
+      )
 
   -- ---- starts of threads, behind the instruction that draws the number
 
@@ -444,35 +445,36 @@ module _ (slots : ℕ) (few : slots ≤ 1048576) (enough : 1026 ≤ slots) (code
         let is : to ≡ suc run.first = omega (arith, run.is) in
         let start : HasRole (outlines c.body) 0 (run.first + 1) (role.StartArg run.thread) = run.run.argument in
         let mine : role.StartArg n ≡ role.StartArg run.thread =
-          role_there c.body to (StartArg n a) (role.StartArg run.thread) there (subst (λ (k : ℕ). HasRole (outlines c.body) 0 k (role.StartArg run.thread)) (sym run.is) start) in
+        role_there c.body to (StartArg n a) (role.StartArg run.thread) there (subst (λ (k : ℕ). HasRole (outlines c.body) 0 k (role.StartArg run.thread)) (sym run.is) start) in
         let thread : n ≡ run.thread = cc in
         let number : HasRole (outlines c.body) 0 run.first role.Fork =
-          record { instruction = run.run.number.instruction; there = run.run.number.there; is = run.run.number.is } in
+        record { instruction = run.run.number.instruction; there = run.run.number.there; is = run.run.number.is } in
         let before = comes_from top.place to run.first w i (StartArg n a) role.Fork at there leads (λ waits. waits) is number
-          (subst (λ (k : ℕ). IsUnreached (outlines c.body) 0 k) (sym run.is) run.run.argument_unreached) in
+        (subst (λ (k : ℕ). IsUnreached (outlines c.body) 0 k) (sym run.is) run.run.argument_unreached) in
         let fork = fork_of i before.1 in
         let f = found c.body run.first run.run.number.instruction run.run.number.there in
         let one : f.instruction ≡ i = one_instruction c.body run.first f.instruction i f.there (ap (slice_get c.body) before.0 ∙ at) in
         let defines : defined i ≡ Some run.thread =
-          ap defined (sym one) ∙ ap (λ (x : Outline). x.defined) f.is ∙ run.run.number.defines in
+        ap defined (sym one) ∙ ap (λ (x : Outline). x.defined) f.is ∙ run.run.number.defines in
         let d-is : Some fork.d ≡ Some run.thread = ap defined (sym fork.is) ∙ defines in
         let d : fork.d ≡ n = cc in
         let is-here : slice_get c.body top.place ≡ Some (Fork fork.d) = at ∙ ap (λ (x : CodePlace). Some x) fork.is in
         let low : fork.d < c.registers = (valid.well_formed.numbers top.place (outline_of_code (Fork fork.d)) (stands_at c.body top.place (Fork fork.d) is-here)).defined in
         let within : fork.d < length top.registers = omega (arith, low, good.registers c function) in
         let writes : Goes (top.place + 1) (ToRegister fork.d (new_thread answer)) ≡ Goes to w =
-          ap (λ (x : CodePlace). effect_of code top answer (shape_of protected (length below) top x)) (sym fork.is) ∙ effect in
+        ap (λ (x : CodePlace). effect_of code top answer (shape_of protected (length below) top x)) (sym fork.is) ∙ effect in
         let write : ToRegister fork.d (new_thread answer) ≡ w = cc in
         let read : register protected (written protected (ToRegister fork.d (new_thread answer)) (record top { place = to })) fork.d ≡ new_thread answer =
-          get_or-set_same top.registers fork.d (new_thread answer) (Bare (pos 0)) within in
+        get_or-set_same top.registers fork.d (new_thread answer) (Bare (pos 0)) within in
         let form' : Fits act.Fork answer = subst (λ (x : CodePlace). Fits (action_of code t top below (shape_of protected (length below) top x)) answer) fork.is form in
         let fits' : AnswerFits slots (act.Fork, answer) =
-          subst (λ (x : CodePlace). AnswerFits slots (action_of code t top below (shape_of protected (length below) top x), answer)) fork.is fits in
+        subst (λ (x : CodePlace). AnswerFits slots (action_of code t top below (shape_of protected (length below) top x), answer)) fork.is fits in
         let known : IsForked (number_of (register protected (written protected (ToRegister fork.d (new_thread answer)) (record top { place = to })) fork.d)) =
-          subst (λ (v : Value). IsForked (number_of v)) (sym read) (forked_is answer form' fits') in
-        (subst (λ (r : ℕ). IsForked (number_in protected after r)) d
-          (subst (λ (x : Write Value). IsForked (number_of (register protected (written protected x (record top { place = to })) fork.d))) write known),
-         subst (λ (x : CodePlace). 1 ≤ credit_of x) (sym fork.is) (omega arith))
+        subst (λ (v : Value). IsForked (number_of v)) (sym read) (forked_is answer form' fits') in (
+          subst (λ (r : ℕ). IsForked (number_in protected after r)) d
+              (subst (λ (x : Write Value). IsForked (number_of (register protected (written protected x (record top { place = to })) fork.d))) write known),
+          subst (λ (x : CodePlace). 1 ≤ credit_of x) (sym fork.is) (omega arith),
+        )
 
     -- the start's function is behind its argument
     function_ready : (n g : ℕ) → slice_get c.body to ≡ Some (StartFn n g) → IsForked (number_in protected after n)
@@ -480,18 +482,18 @@ module _ (slots : ℕ) (few : slots ≤ 1048576) (enough : 1026 ≤ slots) (code
         let run = (ordered_at to (StartFn n g) there).fits.0 in
         let is : to ≡ suc (run.first + 1) = omega (arith, run.is) in
         let mine : role.StartFn n g ≡ role.StartFn run.thread run.function =
-          role_there c.body to (StartFn n g) (role.StartFn run.thread run.function) there
-            (subst (λ (k : ℕ). HasRole (outlines c.body) 0 k (role.StartFn run.thread run.function)) (sym run.is) run.run.function) in
+        role_there c.body to (StartFn n g) (role.StartFn run.thread run.function) there
+        (subst (λ (k : ℕ). HasRole (outlines c.body) 0 k (role.StartFn run.thread run.function)) (sym run.is) run.run.function) in
         let thread : n ≡ run.thread = cc in
         let before = comes_from top.place to (run.first + 1) w i (StartFn n g) (role.StartArg run.thread) at there leads (λ waits. waits) is run.run.argument
-          (subst (λ (k : ℕ). IsUnreached (outlines c.body) 0 k) (sym run.is) run.run.function_unreached) in
+        (subst (λ (k : ℕ). IsUnreached (outlines c.body) 0 k) (sym run.is) run.run.function_unreached) in
         let start = start_of i run.thread before.1 in
         let was : IsForked (number_in protected top run.thread) = subst (IsReadyAt top) start.is ready in
         let writes : Goes (top.place + 1) Nothing ≡ Goes to w =
-          ap (λ (x : CodePlace). effect_of code top answer (shape_of protected (length below) top x)) (sym start.is) ∙ effect in
+        ap (λ (x : CodePlace). effect_of code top answer (shape_of protected (length below) top x)) (sym start.is) ∙ effect in
         let write : Nothing ≡ w = cc in
         subst (λ (r : ℕ). IsForked (number_in protected after r)) (sym thread)
-          (subst (λ (x : Write Value). IsForked (number_in protected (written protected x (record top { place = to })) run.thread)) write was)
+        (subst (λ (x : Write Value). IsForked (number_in protected (written protected x (record top { place = to })) run.thread)) write was)
 
     -- an access is ready and paid for, where its kind stands in the safe store and it isn't marked
     pub access_prepared : (access : CodePlace) (p : ℕ) (k : ScalarKind) (kept : Bool) (unit : Option ℕ)
@@ -508,18 +510,22 @@ module _ (slots : ℕ) (few : slots ≤ 1048576) (enough : 1026 ≤ slots) (code
     access_prepared access p k false unit there moves behind kind kept unmarked = (tt, tt)
 
     pub prepared_for : (next : CodePlace) → slice_get c.body to ≡ Some next → IsReadyAt after next × IsPaidAt (credit_of i) next
-    prepared_for (Load d p k None) there =
-        ((access_prepared (Load d p k None) p k (is_kept k) None there (λ waits. waits) (ordered_at to (Load d p k None) there).fits refl refl
-          (λ none. valid.places to (Load d p k None) there)).0, tt)
-    prepared_for (Load d p k (Some u)) there =
-        ((access_prepared (Load d p k (Some u)) p k (is_kept k) (Some u) there (λ waits. waits) (ordered_at to (Load d p k (Some u)) there).fits refl refl
-          (λ none. absurd (cc))).0, tt)
+    prepared_for (Load d p k None) there = (
+      (access_prepared (Load d p k None) p k (is_kept k) None there (λ waits. waits) (ordered_at to (Load d p k None) there).fits refl refl
+          (λ none. valid.places to (Load d p k None) there)).0,
+      tt,
+    )
+    prepared_for (Load d p k (Some u)) there = (
+      (access_prepared (Load d p k (Some u)) p k (is_kept k) (Some u) there (λ waits. waits) (ordered_at to (Load d p k (Some u)) there).fits refl refl
+          (λ none. absurd (cc))).0,
+      tt,
+    )
     prepared_for (Store p a k None) there =
         access_prepared (Store p a k None) p k (is_kept k) None there (λ waits. waits) (ordered_at to (Store p a k None) there).fits refl refl
-          (λ none. valid.places to (Store p a k None) there)
+        (λ none. valid.places to (Store p a k None) there)
     prepared_for (Store p a k (Some u)) there =
         access_prepared (Store p a k (Some u)) p k (is_kept k) (Some u) there (λ waits. waits) (ordered_at to (Store p a k (Some u)) there).fits refl refl
-          (λ none. absurd (cc))
+        (λ none. absurd (cc))
     prepared_for (StartArg n a) there = argument_ready n a there
     prepared_for (StartFn n g) there = (function_ready n g there, tt)
     prepared_for _ there = (tt, tt)

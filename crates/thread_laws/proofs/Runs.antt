@@ -72,7 +72,7 @@ module _ (slots : ℕ) (few : slots ≤ 1048576) (enough : 1026 ≤ slots) (code
       → Fits (action_by code m top below (shape_at top below at)) answer
       → AnswerFits slots (action_by code m top below (shape_at top below at), answer)
       → IsGoodThread slots code (resumed_by code top below answer (shape_at top below at)).thread
-          (puts + one_put (action_by code m top below (shape_at top below at))) (suc turns)
+      (puts + one_put (action_by code m top below (shape_at top below at))) (suc turns)
   running_by top below puts turns answer None is r goes form fits = record {
     made = r.made;
     rest = r.rest;
@@ -91,13 +91,13 @@ module _ (slots : ℕ) (few : slots ≤ 1048576) (enough : 1026 ≤ slots) (code
       → Fits (next code m (Running top below)) answer
       → AnswerFits slots (next code m (Running top below), answer)
       → IsGoodThread slots code (resume code m (Running top below) (next code m (Running top below)) answer).thread
-          (puts + one_put (next code m (Running top below))) (suc turns)
+      (puts + one_put (next code m (Running top below))) (suc turns)
   running_keeps top below puts turns answer true is r form fits =
       halted_good (Running top below) (next code m (Running top below)) answer (puts + one_put (next code m (Running top below))) (suc turns) is
   running_keeps top below puts turns answer false is r form fits =
       subst (λ (told : Told Value). IsGoodThread slots code told.thread (puts + one_put (next code m (Running top below))) (suc turns))
-        (sym (resume_on code m (Running top below) (next code m (Running top below)) answer is))
-        (running_by top below puts turns answer (place_at code top.function top.place) refl r is form fits)
+      (sym (resume_on code m (Running top below) (next code m (Running top below)) answer is))
+      (running_by top below puts turns answer (place_at code top.function top.place) refl r is form fits)
 
   running_asks_by : (top : Frame Value) (below : List (Frame Value)) (puts turns : ℕ) (at : Option CodePlace)
       → place_at code top.function top.place ≡ at
@@ -105,9 +105,10 @@ module _ (slots : ℕ) (few : slots ≤ 1048576) (enough : 1026 ≤ slots) (code
       → ActionFits slots (action_by code m top below (shape_at top below at))
       × (one_put (action_by code m top below (shape_at top below at)) ≡ 1 → 2 * (puts + 1) ≤ turns + 1)
   running_asks_by top below puts turns None is r = (tt, λ put. absurd (omega (arith, put)))
-  running_asks_by top below puts turns (Some i) is r =
-      (asks_now slots few enough code valid m top below puts turns i r is,
-       λ put. put_is_paid slots few enough code valid m top below puts turns i r is put)
+  running_asks_by top below puts turns (Some i) is r = (
+    asks_now slots few enough code valid m top below puts turns i r is,
+    λ put. put_is_paid slots few enough code valid m top below puts turns i r is put,
+  )
 
   found_fits : (a : ℕ) (answer : Reply) → Fits (act.Get a) answer → AnswerFits slots (act.Get a, answer) → FoundFits slots (found_entry answer)
   found_fits a (reply.Found e) form fits = fits
@@ -149,7 +150,7 @@ module _ (slots : ℕ) (few : slots ≤ 1048576) (enough : 1026 ≤ slots) (code
   keeps Waiting puts turns answer good live form fits = absurd good
   keeps (Starting f) puts turns answer good live form fits =
       first_good f (loaded_entry (found_entry answer) ∷ []) (puts + 0) (suc turns)
-        (loaded_fits slots (found_entry answer) (found_fits (argument_address m) answer form fits), tt) (omega (arith, good))
+      (loaded_fits slots (found_entry answer) (found_fits (argument_address m) answer form fits), tt) (omega (arith, good))
   keeps (Running top below) puts turns answer good live form fits =
       running_keeps top below puts turns answer (halts (next code m (Running top below))) refl good form fits
   keeps Ended puts turns answer good live form fits = absurd (cc)
@@ -163,19 +164,20 @@ module _ (slots : ℕ) (few : slots ≤ 1048576) (enough : 1026 ≤ slots) (code
       → ActionFits slots last.0
       × (one_put last.0 ≡ 1 → 2 * (puts + puts_among (before ++ last ∷ [])) ≤ turns + length (before ++ last ∷ []))
   begun_run inputs [] last thread puts turns good run fits =
-      let asked = asks thread puts turns good run.0 in
-      (subst (ActionFits slots) (sym run.1) asked.0,
-       λ put.
-         let is : one_put (next code m thread) ≡ 1 = ap one_put (sym run.1) ∙ put in
-         let half : 2 * (puts + 1) ≤ turns + 1 = asked.1 is in
-         omega (arith, half, put))
+      let asked = asks thread puts turns good run.0 in (
+        subst (ActionFits slots) (sym run.1) asked.0,
+        λ put.
+            let is : one_put (next code m thread) ≡ 1 = ap one_put (sym run.1) ∙ put in
+            let half : 2 * (puts + 1) ≤ turns + 1 = asked.1 is in
+            omega (arith, half, put),
+      )
   begun_run inputs (c ∷ cs) last thread puts turns good run fits =
       let form : Fits (next code m thread) c.1 = subst (λ (a : Action). Fits a c.1) run.1 run.2 in
       let answer : AnswerFits slots (next code m thread, c.1) = subst (λ (a : Action). AnswerFits slots (a, c.1)) run.1 fits.0 in
       let kept : IsGoodThread slots code (resume code m thread (next code m thread) c.1).thread (puts + one_put (next code m thread)) (suc turns) =
-        keeps thread puts turns c.1 good run.0 form answer in
+      keeps thread puts turns c.1 good run.0 form answer in
       let after : IsGoodThread slots code (resume code m thread c.0 c.1).thread (puts + one_put c.0) (suc turns) =
-        subst (λ (a : Action). IsGoodThread slots code (resume code m thread a c.1).thread (puts + one_put a) (suc turns)) (sym run.1) kept in
+      subst (λ (a : Action). IsGoodThread slots code (resume code m thread a c.1).thread (puts + one_put a) (suc turns)) (sym run.1) kept in
       let rest = begun_run inputs cs last (resume code m thread c.0 c.1).thread (puts + one_put c.0) (suc turns) after run.4 fits.1 in
       (rest.0, λ put. let half = rest.1 put in omega (arith, half))
 
@@ -203,7 +205,7 @@ module _ (slots : ℕ) (few : slots ≤ 1048576) (enough : 1026 ≤ slots) (code
   waiting_by inputs cs last still fits (reply.Found None) form run = still run
   waiting_by inputs cs last still fits (reply.Found (Some e)) form run =
       let asked = begun_run inputs cs last (start_by (protected_callee code start_type (loaded_entry (Some e)))).thread 0 0
-        (start_good (protected_callee code start_type (loaded_entry (Some e)))) run fits in
+      (start_good (protected_callee code start_type (loaded_entry (Some e)))) run fits in
       (asked.0, λ put. let half = asked.1 put in omega (arith, half, found_turns e (cs ++ last ∷ [])))
   waiting_by inputs cs last still fits reply.Nothing form run = absurd form
   waiting_by inputs cs last still fits (reply.Word w) form run = absurd form
@@ -215,18 +217,19 @@ module _ (slots : ℕ) (few : slots ≤ 1048576) (enough : 1026 ≤ slots) (code
       → LocalRunFrom code inputs m Waiting (before ++ last ∷ [])
       → Each (AnswerFits slots) before
       → Asked last (before ++ last ∷ []) (turns_behind m (before ++ last ∷ []))
-  waiting_run inputs [] last run fits =
-      (subst (ActionFits slots) (sym run.1) (omega (arith, low)),
-       λ put. let none : one_put (act.Get (start_address m)) ≡ 1 = ap one_put (sym run.1) ∙ put in absurd (omega (arith, none)))
+  waiting_run inputs [] last run fits = (
+    subst (ActionFits slots) (sym run.1) (omega (arith, low)),
+    λ put. let none : one_put (act.Get (start_address m)) ≡ 1 = ap one_put (sym run.1) ∙ put in absurd (omega (arith, none)),
+  )
   waiting_run inputs (c ∷ cs) last run fits =
       let calls = cs ++ last ∷ [] in
       let form : Fits (act.Get (start_address m)) c.1 = subst (λ (a : Action). Fits a c.1) run.1 run.2 in
       let after : LocalRunFrom code inputs m (resume code m Waiting (act.Get (start_address m)) c.1).thread calls =
-        subst (λ (a : Action). LocalRunFrom code inputs m (resume code m Waiting a c.1).thread calls) run.1 run.4 in
+      subst (λ (a : Action). LocalRunFrom code inputs m (resume code m Waiting a c.1).thread calls) run.1 run.4 in
       let asked = waiting_by inputs cs last (λ still. waiting_run inputs cs last still fits.1) fits.1 c.1 form after in
       let none : one_put c.0 ≡ 0 = ap one_put run.1 in
       let turns : turns_behind m ((act.Get (start_address m), c.1) ∷ calls) ≡ turns_behind m (c ∷ calls) =
-        ap (λ (a : Action). turns_behind m ((a, c.1) ∷ calls)) (sym run.1) in
+      ap (λ (a : Action). turns_behind m ((a, c.1) ∷ calls)) (sym run.1) in
       (asked.0, λ put. let half = asked.1 put in omega (arith, half, none, turns))
 
 asked_by : (m slots : ℕ) → slots ≤ 1048576 → 1026 ≤ slots → (code : Code) → ValidCode code → m ≤ 15
@@ -237,7 +240,7 @@ asked_by : (m slots : ℕ) → slots ≤ 1048576 → 1026 ≤ slots → (code : 
     × (one_put last.0 ≡ 1 → 2 * puts_among (before ++ last ∷ []) ≤ counted_turns m (before ++ last ∷ []))
 asked_by zero slots few enough code valid low inputs before last run fits =
     let asked = begun_run slots few enough code valid zero low inputs before last (first_thread code zero) 0 0
-      (first_good slots few enough code valid zero low code.entry [] 0 0 tt refl) run fits in
+    (first_good slots few enough code valid zero low code.entry [] 0 0 tt refl) run fits in
     (asked.0, λ put. let half = asked.1 put in omega (arith, half))
 asked_by (suc k) slots few enough code valid low inputs before last run fits =
     waiting_run slots few enough code valid (suc k) low inputs before last run fits

@@ -155,21 +155,21 @@ without : (xs : List ℕ) (q : ℕ) → IsAmong xs q → Without xs q
 without [] q among = absurd among
 without (x ∷ xs) q among =
     elim among [
-      inl here ↦ record {
+      | inl here ↦ record {
         rest = xs;
         count = refl;
         others = λ r is. elim is [ inl first ↦ inl (sym first ∙ here) | inr behind ↦ inr behind ];
       }
       | inr behind ↦
-        let w = without xs q behind in
-        record {
-          rest = x ∷ w.rest;
-          count = ap suc w.count;
-          others = λ r is. elim is [
-            inl first ↦ inr (inl first)
-            | inr more ↦ elim (w.others r more) [ inl same ↦ inl same | inr other ↦ inr (inr other) ]
-          ];
-        }
+          let w = without xs q behind in
+          record {
+            rest = x ∷ w.rest;
+            count = ap suc w.count;
+            others = λ r is. elim is [
+              | inl first ↦ inr (inl first)
+              | inr more ↦ elim (w.others r more) [ inl same ↦ inl same | inr other ↦ inr (inr other) ]
+            ];
+          }
     ]
 
 module _ (slots : ℕ) (few : slots ≤ 1048576) (enough : 1026 ≤ slots) (code : Code) (valid : ValidCode code) where
@@ -187,13 +187,13 @@ module _ (slots : ℕ) (few : slots ≤ 1048576) (enough : 1026 ≤ slots) (code
       -- nothing is made there
       same_covers : ((r : ℕ) → defined i ≡ Some r → ⊥) → Covers c to made
       same_covers none = covers_behind slots few enough code c v x to w i made made at leads covers
-        (λ q p t g has serves same. absurd (none g (server_defines c.body q p g i (ap (slice_get c.body) same ∙ at) serves)))
-        (λ q p t g has serves low among. among)
+          (λ q p t g has serves same. absurd (none g (server_defines c.body q p g i (ap (slice_get c.body) same ∙ at) serves)))
+          (λ q p t g has serves low among. among)
 
       more_covers : Covers c to (x ∷ made)
       more_covers = covers_behind slots few enough code c v x to w i made (x ∷ made) at leads covers
-        (λ q p t g has serves same. inl (sym same))
-        (λ q p t g has serves low among. inr among)
+          (λ q p t g has serves same. inl (sym same))
+          (λ q p t g has serves low among. inr among)
 
     -- one of the places is spent
     record Spent (x : ℕ) (made : List ℕ) : Type 0 where
@@ -225,16 +225,16 @@ module _ (slots : ℕ) (few : slots ≤ 1048576) (enough : 1026 ≤ slots) (code
         record {
           more = w.rest;
           covers = covers_behind slots few enough code c v x (x + 1) Nothing (StartFn t g) made w.rest at (inl refl) covers
-            (λ q p n h has serves same. absurd (defines_nothing q p h t g (ap (slice_get c.body) same ∙ at) serves))
-            (λ q p n h has serves low is. elim (w.others q is) [
-              inl spent ↦
-                let later = start_fn_there p n h has in
-                let rules' = ordered_at slots few enough code c v p (StartFn n h) later in
-                absurd (rules'.fits.1.first_start served.server x t g
-                  (subst (λ (s : ℕ). Serves (outlines c.body) 0 s p h) spent serves)
-                  (omega (arith, low)) here served.serves)
-              | inr other ↦ other
-            ]);
+              (λ q p n h has serves same. absurd (defines_nothing q p h t g (ap (slice_get c.body) same ∙ at) serves))
+              (λ q p n h has serves low is. elim (w.others q is) [
+                | inl spent ↦
+                    let later = start_fn_there p n h has in
+                    let rules' = ordered_at slots few enough code c v p (StartFn n h) later in
+                    absurd (rules'.fits.1.first_start served.server x t g
+                    (subst (λ (s : ℕ). Serves (outlines c.body) 0 s p h) spent serves)
+                    (omega (arith, low)) here served.serves)
+                | inr other ↦ other
+              ]);
           count = w.count;
         }
 
@@ -242,7 +242,7 @@ module _ (slots : ℕ) (few : slots ≤ 1048576) (enough : 1026 ≤ slots) (code
     fork_is_fresh x q p t g d at has serves same =
         let later = start_fn_there p t g has in
         (ordered_at slots few enough code c v p (StartFn t g) later).fits.1.no_number q serves
-          (subst (λ (k : ℕ). HasRole (outlines c.body) 0 k role.Fork) (sym same) (has_role c.body x (Fork d) at))
+        (subst (λ (k : ℕ). HasRole (outlines c.body) 0 k role.Fork) (sym same) (has_role c.body x (Fork d) at))
 
     plain_budget :
         (t : ℕ) (top : Frame Value) (below : List (Frame Value)) (to : ℕ) (w : Write Value) (i : CodePlace) (made : List ℕ) (credit : ℕ)
@@ -279,8 +279,8 @@ module _ (slots : ℕ) (few : slots ≤ 1048576) (enough : 1026 ≤ slots) (code
     budget t top below answer to w (Fork d) made credit at leads covers effect paid = record {
       more = made;
       covers = covers_behind slots few enough code c v top.place to w (Fork d) made made at leads covers
-        (λ q p n g has serves same. absurd (fork_is_fresh top.place q p n g d at has serves same))
-        (λ q p n g has serves low among. among);
+          (λ q p n g has serves same. absurd (fork_is_fresh top.place q p n g d at has serves same))
+          (λ q p n g has serves low among. among);
       paid = omega arith;
     }
     budget t top below answer to w (Store p a k unit) made credit at leads covers effect paid =
@@ -331,7 +331,7 @@ module _ (slots : ℕ) (few : slots ≤ 1048576) (enough : 1026 ≤ slots) (code
         → Fits (action_of code t top below (shape_of protected (length below) top i)) answer
         → AnswerFits slots (action_of code t top below (shape_of protected (length below) top i), answer)
         → IsGoodRunning slots code (written protected w (record top { place = to })) below
-            (puts + one_put (action_of code t top below (shape_of protected (length below) top i))) (suc turns)
+        (puts + one_put (action_of code t top below (shape_of protected (length below) top i))) (suc turns)
     turn_goes t top below puts turns answer i to w r function here effect goes form fits =
         let at = place_is code top.function top.place c i function here in
         let leads : LeadsTo top.place i (Goes to w) = subst (LeadsTo top.place i) effect (leads_to code (length below) top answer i) in
@@ -339,34 +339,34 @@ module _ (slots : ℕ) (few : slots ≤ 1048576) (enough : 1026 ≤ slots) (code
         let b = budget t top below answer to w i r.made r.credit at leads (r.good.covers c function) effect (r.prepared.paid i here) in
         let k = slots_for (frame_units code top.function) in
         let has : WriteHas slots k w =
-          subst (EffectHas slots few enough k) effect
-            (effect_has slots few enough code t top below answer (shape_of protected (length below) top i) r.good.fits
-              (shape_fits_at slots few enough code c v top r.made r.good function (length below) i at valid.few_functions) form fits) in
+        subst (EffectHas slots few enough k) effect
+        (effect_has slots few enough code t top below answer (shape_of protected (length below) top i) r.good.fits
+        (shape_fits_at slots few enough code c v top r.made r.good function (length below) i at valid.few_functions) form fits) in
         let moved : Frame Value = record top { place = to } in
         let after : Frame Value = written protected w moved in
         let same : after.function ≡ top.function = written_function slots few enough code c v w moved in
         let place : after.place ≡ to = written_place slots few enough code c v w moved in
         let drawn-or : 0 < length c.locals → 0 < to → IsObjectWrite slots few enough code c v w ⊎ IsDrawn slots c top.object =
-          λ some low. elim (order 0 top.place) [
-            inl behind ↦ inr (r.good.object c function some behind)
-            | inr rest ↦ elim rest [
-                inl less ↦ absurd (omega (arith, less))
-                | inr first ↦
-                  let enters : i ≡ Enter = first_enters slots few enough code c v some i (ap (slice_get c.body) first ∙ at) in
-                  inl (drawn_writes top answer to w
-                    (ap (λ (x : CodePlace). effect_of code top answer (shape_of protected (length below) top x)) (sym enters) ∙ effect))
-              ]
-          ] in
+        λ some low. elim (order 0 top.place) [
+          | inl behind ↦ inr (r.good.object c function some behind)
+          | inr rest ↦ elim rest [
+            | inl less ↦ absurd (omega (arith, less))
+            | inr first ↦
+                let enters : i ≡ Enter = first_enters slots few enough code c v some i (ap (slice_get c.body) first ∙ at) in
+                inl (drawn_writes top answer to w
+                (ap (λ (x : CodePlace). effect_of code top answer (shape_of protected (length below) top x)) (sym enters) ∙ effect))
+          ]
+        ] in
         let next-at : (next : CodePlace) → place_at code after.function after.place ≡ Some next → slice_get c.body to ≡ Some next =
-          λ next there. place_is code top.function to c next function
-            (ap (λ (f : ℕ). place_at code f to) (sym same) ∙ ap (place_at code after.function) (sym place) ∙ there) in
+        λ next there. place_is code top.function to c next function
+        (ap (λ (f : ℕ). place_at code f to) (sym same) ∙ ap (place_at code after.function) (sym place) ∙ there) in
         let prepared = prepared_for slots few enough code c v t top below r.made answer i to w r.good ready function at leads effect goes form fits in
         record {
           made = b.more;
           rest = r.rest;
           credit = credit_of slots few enough code c v i;
           good = good_written slots few enough code c v k top r.made b.more w to r.good function
-            (ap slots_for (units_here slots few enough code c v top r.made r.good function)) has drawn-or b.covers;
+              (ap slots_for (units_here slots few enough code c v top r.made r.good function)) has drawn-or b.covers;
           prepared = record {
             ready = λ next there. (prepared next (next-at next there)).0;
             paid = λ next there. (prepared next (next-at next there)).1;
@@ -390,21 +390,21 @@ module _ (slots : ℕ) (few : slots ≤ 1048576) (enough : 1026 ≤ slots) (code
     touch_behind b j p at call behind =
         let same : behind.before ≡ b = omega (arith, behind.next) in
         no_touch j p call (role_there c.body b j (role.Touch p) at
-          (subst (λ (k : ℕ). HasRole (outlines c.body) 0 k (role.Touch p)) same behind.there))
+        (subst (λ (k : ℕ). HasRole (outlines c.body) 0 k (role.Touch p)) same behind.there))
 
     argument_behind : (b : ℕ) (j : CodePlace) → slice_get c.body b ≡ Some j → IsCall j → InStart (outlines c.body) (suc b) 1 → ⊥
     argument_behind b j at call start =
         let same : start.first ≡ b = omega (arith, start.is) in
         let number : HasRole (outlines c.body) 0 start.first role.Fork =
-          record { instruction = start.run.number.instruction; there = start.run.number.there; is = start.run.number.is } in
+        record { instruction = start.run.number.instruction; there = start.run.number.there; is = start.run.number.is } in
         no_fork j call (role_there c.body b j role.Fork at
-          (subst (λ (k : ℕ). HasRole (outlines c.body) 0 k role.Fork) same number))
+        (subst (λ (k : ℕ). HasRole (outlines c.body) 0 k role.Fork) same number))
 
     function_behind : (b : ℕ) (j : CodePlace) → slice_get c.body b ≡ Some j → IsCall j → InStart (outlines c.body) (suc b) 2 → ⊥
     function_behind b j at call start =
         let same : start.first + 1 ≡ b = omega (arith, start.is) in
         no_start j start.thread call (role_there c.body b j (role.StartArg start.thread) at
-          (subst (λ (k : ℕ). HasRole (outlines c.body) 0 k (role.StartArg start.thread)) same start.run.argument))
+        (subst (λ (k : ℕ). HasRole (outlines c.body) 0 k (role.StartArg start.thread)) same start.run.argument))
 
     behind_ready : (g : Frame Value) (b : ℕ) (j : CodePlace) → slice_get c.body b ≡ Some j → IsCall j
         → (next : CodePlace) → slice_get c.body (suc b) ≡ Some next → IsReadyAt g next × IsPaidAt 0 next
@@ -452,20 +452,20 @@ module _ (slots : ℕ) (few : slots ≤ 1048576) (enough : 1026 ≤ slots) (code
       fits = placed_fits slots top (top.place + 1) good.fits;
       registers = good.registers;
       object = λ d there some behind.
-        elim (order 0 top.place) [
-          inl low ↦ good.object d there some low
-          | inr rest ↦ elim rest [
-              inl less ↦ absurd (omega (arith, less))
+          elim (order 0 top.place) [
+            | inl low ↦ good.object d there some low
+            | inr rest ↦ elim rest [
+              | inl less ↦ absurd (omega (arith, less))
               | inr first ↦
-                let one : c ≡ d = let is : Some c ≡ Some d = sym function ∙ there in cc in
-                let enters : i ≡ Enter = first_enters slots few enough code c v
+                  let one : c ≡ d = let is : Some c ≡ Some d = sym function ∙ there in cc in
+                  let enters : i ≡ Enter = first_enters slots few enough code c v
                   (subst (λ (x : CodeFunction). 0 < length x.locals) (sym one) some) i (ap (slice_get c.body) first ∙ at) in
-                absurd (subst IsCall enters call)
+                  absurd (subst IsCall enters call)
             ]
-        ];
+          ];
       covers = λ d there.
-        let one : c ≡ d = let is : Some c ≡ Some d = sym function ∙ there in cc in
-        subst (λ (x : CodeFunction). Covers x (top.place + 1) made) one
+          let one : c ≡ d = let is : Some c ≡ Some d = sym function ∙ there in cc in
+          subst (λ (x : CodeFunction). Covers x (top.place + 1) made) one
           (same_covers top.place (top.place + 1) Nothing i made 0 at (inl refl) (good.covers c function) (λ r is. call_defines_nothing i r call is));
     }
 
@@ -501,9 +501,9 @@ module _ (slots : ℕ) (few : slots ≤ 1048576) (enough : 1026 ≤ slots) (code
       let g : Frame Value = opened protected code f arguments in
       let first : g.place ≡ 0 = opened_place_by o f arguments in
       let prepared : (next : CodePlace) → place_at code g.function g.place ≡ Some next → IsReadyAt g next × IsPaidAt 0 next =
-        λ next there.
-          let s = stands_in code g.function 0 next (ap (place_at code g.function) (sym first) ∙ there) in
-          first_ready s.function (valid_function code g.function s.function valid s.there) g next s.at in
+      λ next there.
+      let s = stands_in code g.function 0 next (ap (place_at code g.function) (sym first) ∙ there) in
+      first_ready s.function (valid_function code g.function s.function valid s.there) g next s.at in
       record { ready = λ next there. (prepared next there).0; paid = λ next there. (prepared next there).1 }
 
   -- ---- out of a frame
@@ -524,11 +524,11 @@ module _ (slots : ℕ) (few : slots ≤ 1048576) (enough : 1026 ≤ slots) (code
   behind_is_prepared : (f : Frame Value) → IsBehindCall code f → IsPrepared code f 0
   behind_is_prepared f behind =
       let prepared : (next : CodePlace) → place_at code f.function f.place ≡ Some next → IsReadyAt f next × IsPaidAt 0 next =
-        λ next there.
-          let s = stands_in code f.function (suc behind.behind) next (ap (place_at code f.function) (sym behind.is) ∙ there) in
-          let call = got_before s.function.body behind.behind next s.at in
-          behind_ready s.function (valid_function code f.function s.function valid s.there) f behind.behind call.item call.there
-            (behind.call call.item (place_of f.function behind.behind s.function call.item s.there call.there)) next s.at in
+      λ next there.
+      let s = stands_in code f.function (suc behind.behind) next (ap (place_at code f.function) (sym behind.is) ∙ there) in
+      let call = got_before s.function.body behind.behind next s.at in
+      behind_ready s.function (valid_function code f.function s.function valid s.there) f behind.behind call.item call.there
+      (behind.call call.item (place_of f.function behind.behind s.function call.item s.there call.there)) next s.at in
       record { ready = λ next there. (prepared next there).0; paid = λ next there. (prepared next there).1 }
 
   -- the result is written in the caller's frame
@@ -580,19 +580,19 @@ module _ (slots : ℕ) (few : slots ≤ 1048576) (enough : 1026 ≤ slots) (code
     effect_fits_now : EffectHas slots few enough (slots_for (frame_units code top.function)) (effect_of code top answer (shape_of protected (length below) top i))
     effect_fits_now =
         effect_has slots few enough code t top below answer (shape_of protected (length below) top i) r.good.fits
-          (shape_fits_at slots few enough code now.function (valid_function code top.function now.function valid now.there) top r.made r.good now.there
-            (length below) i now.at valid.few_functions) form fits
+        (shape_fits_at slots few enough code now.function (valid_function code top.function now.function valid now.there) top r.made r.good now.there
+        (length below) i now.at valid.few_functions) form fits
 
     turn_by : (e : Effect Value) → effect_of code top answer (shape_of protected (length below) top i) ≡ e
         → IsGoodThread slots code (applied protected code top below e).thread (puts + one_put action) (suc turns)
     turn_by (Stops why) is = tt
     turn_by (Goes to w) is =
         turn_goes now.function (valid_function code top.function now.function valid now.there) t top below puts turns answer i to w
-          r now.there here is goes form fits
+        r now.there here is goes form fits
     turn_by (Enters f arguments through) is =
         let call : IsCall i = subst (LeadsTo top.place i) is (leads_to code (length below) top answer i) in
         let none = none_put code t top below (shape_of protected (length below) top i)
-          (plain_shape (length below) top i (call_is_plain now.function (valid_function code top.function now.function valid now.there) i call)) in
+        (plain_shape (length below) top i (call_is_plain now.function (valid_function code top.function now.function valid now.there) i call)) in
         let fit : Each (ValueFits slots) arguments = subst (EffectHas slots few enough (slots_for (frame_units code top.function))) is effect_fits_now in
         record {
           made = [];
@@ -619,8 +619,8 @@ module _ (slots : ℕ) (few : slots ≤ 1048576) (enough : 1026 ≤ slots) (code
         let none = none_put code t top below (shape_of protected (length below) top i) (plain_shape (length below) top i (return_is_plain i return)) in
         let value : ValueFits slots x = subst (EffectHas slots few enough (slots_for (frame_units code top.function))) is effect_fits_now in
         subst (λ (n : ℕ). IsGoodThread slots code (leaves protected code below x).thread n (suc turns))
-          (let more : puts ≡ puts + one_put action = omega (arith, none) in more)
-          (turn_leaves top below puts turns x r value)
+        (let more : puts ≡ puts + one_put action = omega (arith, none) in more)
+        (turn_leaves top below puts turns x r value)
 
     -- a turn keeps what threads keep
     pub turn_keeps : IsGoodThread slots code (resumed_by code top below answer (shape_at top below (Some i))).thread (puts + one_put action) (suc turns)
@@ -637,7 +637,7 @@ module _ (slots : ℕ) (few : slots ≤ 1048576) (enough : 1026 ≤ slots) (code
     pub asks_now : ActionFits slots (action_of code t top below (shape_of protected (length below) top i))
     asks_now =
         asks_fitting slots few enough code site.function (valid_function code top.function site.function valid site.there) top r.made r.good site.there
-          t below i site.at valid.few_functions (r.prepared.ready i here)
+        t below i site.at valid.few_functions (r.prepared.ready i here)
 
     plain_paid : (j : CodePlace) → IsPlain j → 2 * one_put (action_of code t top below (shape_of protected (length below) top j)) ≤ suc (r.credit + length r.made)
     plain_paid j plain =

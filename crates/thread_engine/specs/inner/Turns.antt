@@ -13,7 +13,7 @@ use Rattle.machine.specs.Domain as model
 use Rattle.machine.specs.Frames as model-frames
 use Rattle.machine.specs.Numbers.{low_word}
 use Rattle.machine.specs.Protected.{effect_of as effect_by, protected}
-use Rattle.machine.specs.Shapes.{Shape, number_in, object_of, register, shape_of}
+use Rattle.machine.specs.Shapes.{number_in, object_of, register, shape_of}
 use Rattle.machine.specs.Threads.{has_room, place_at}
 use Rattle.thread_engine.specs.Sound.{most_slots}
 use Rattle.thread_engine.specs.declared.callee.Callee.{Callee}

@@ -1,10 +1,9 @@
 -- The thread for which the engine's fields stand, what these keep, and what a turn is to give.
-use Rattle.std.specs.Prelude.{◌≡◌, ◌≤◌, ℕ, List, [], ◌∷◌, Bool, true, false}
-use Rattle.std.specs.Vec.{vec_capacity}
+use Rattle.std.specs.Prelude.{◌≡◌, List, []}
 use Rattle.meaning.specs.declared.note.Note.{Note}
 use Rattle.meaning.specs.declared.value.Value.{Value}
 use Rattle.machine.specs.Frames as model
-use Rattle.machine.specs.Threads.{Told, most_frames}
+use Rattle.machine.specs.Threads.{Told}
 use Rattle.thread_engine.specs.declared.stack.Stack.{Stack}
 use Rattle.thread_engine.specs.declared.state.Phase.{Phase}
 use Rattle.thread_engine.specs.declared.state.Phase.TheVariants.{Waiting, Starting, Running, Ended, Stopped}

@@ -1,5 +1,5 @@
 -- One slot more is told.
-use Rattle.std.proofs.Common.{◌≡◌, ◌<◌, ◌++◌, pos, List, length, take, sym, ap, ◌∙◌, arith}
+use Rattle.std.proofs.Common.{◌<◌, ◌++◌, pos, List, length, take, sym, ap, ◌∙◌, arith}
 use Rattle.std.proofs.lemmas.List.{append_assoc}
 use Rattle.meaning.specs.declared.note.Note.{Note}
 use Rattle.meaning.specs.declared.value.Value.{Value}
@@ -18,10 +18,10 @@ loop-slot-preserved c =
     let told = slots_told protected depth 0 (take slot c.args.values.now) in
     record {
       told =
-        c.tell_slot.ensures.told
-        ∙ ap (λ (r : List Note). r ++ slot_told protected depth slot (told_function c.value_at.result)) c.loop-slot.invariant.told
-        ∙ append_assoc c.args.self.now told (slot_told protected depth slot (told_function c.value_at.result))
-        ∙ ap (λ (x : Value). c.args.self.now ++ (told ++ slot_told protected depth slot (told_function x))) c.value_at.ensures
-        ∙ ap (λ (r : List Note). c.args.self.now ++ r) (sym (told_step depth slot c.args.values.now (Bare (pos 0)) low));
+          c.tell_slot.ensures.told
+          ∙ ap (λ (r : List Note). r ++ slot_told protected depth slot (told_function c.value_at.result)) c.loop-slot.invariant.told
+          ∙ append_assoc c.args.self.now told (slot_told protected depth slot (told_function c.value_at.result))
+          ∙ ap (λ (x : Value). c.args.self.now ++ (told ++ slot_told protected depth slot (told_function x))) c.value_at.ensures
+          ∙ ap (λ (r : List Note). c.args.self.now ++ r) (sym (told_step depth slot c.args.values.now (Bare (pos 0)) low));
       few = omega (arith, c.tell_slot.ensures.few, c.loop-slot.invariant.few);
     }

@@ -16,7 +16,7 @@ step-requires-clause-fits c =
     let stack = c.args.self.now.stack in
     let running = c.in-Running.is in
     step_fits code c.args.number (top_of stack) (below_of stack) c.args.answer c.requires.valid
-      (subst (λ (p : Phase). IsSound code (thread_by p stack)) running c.requires.sound)
-      (subst (λ (p : Phase). halt_of (next code c.args.number (thread_by p stack)) ≡ None) running c.requires.goes)
-      (subst (λ (p : Phase). Fits (next code c.args.number (thread_by p stack)) c.args.answer) running c.requires.fits)
-      (subst (λ (p : Phase). SlotsAreThere (next code c.args.number (thread_by p stack)) c.args.answer) running c.requires.there)
+    (subst (λ (p : Phase). IsSound code (thread_by p stack)) running c.requires.sound)
+    (subst (λ (p : Phase). halt_of (next code c.args.number (thread_by p stack)) ≡ None) running c.requires.goes)
+    (subst (λ (p : Phase). Fits (next code c.args.number (thread_by p stack)) c.args.answer) running c.requires.fits)
+    (subst (λ (p : Phase). SlotsAreThere (next code c.args.number (thread_by p stack)) c.args.answer) running c.requires.there)

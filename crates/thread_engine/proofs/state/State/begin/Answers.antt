@@ -12,5 +12,5 @@ pub begin-requires-clause-small : goal.begin-requires-clause-small
 begin-requires-clause-small c =
     let arguments = c.in_ok-arguments.arguments.items in
     let small : length_of (opened protected c.args.code.now c.args.f arguments) ≤ 18432 =
-      opened_is_small c.args.code.now c.args.f arguments c.requires.valid in
+    opened_is_small c.args.code.now c.args.f arguments c.requires.valid in
     subst (λ (f : Frame Value). length_of f < 4294967296) (sym c.in_ok-frame.ensures) (omega (arith, small))

@@ -1,6 +1,5 @@
 -- What is held is what the functions of the frames ask for.
 use Rattle.std.proofs.Common.{◌≡◌, subst, arith}
-use Rattle.machine.specs.Threads.{values_of}
 use Rattle.thread_engine.specs.declared.state.Phase.{Phase}
 use Rattle.thread_engine.specs.Sound.{AreSound, IsSound}
 use Rattle.thread_engine.specs.inner.Frames.{frames_of, held}
@@ -12,7 +11,7 @@ pub enter-requires-clause-used : goal.enter-requires-clause-used
 enter-requires-clause-used c =
     let stack = c.args.self.now.stack in
     let sound : AreSound c.args.code.now (frames_of stack) =
-      subst (λ (p : Phase). IsSound c.args.code.now (thread_by p stack)) c.requires.running c.requires.sound in
+    subst (λ (p : Phase). IsSound c.args.code.now (thread_by p stack)) c.requires.running c.requires.sound in
     let counted : stack.used ≡ held (frames_of stack) =
-      subst (λ (p : Phase). CountsBy p stack) c.requires.running c.requires.kept.counts in
+    subst (λ (p : Phase). CountsBy p stack) c.requires.running c.requires.kept.counts in
     omega (arith, counted, held_are_values c.args.code.now (frames_of stack) sound, sound.small)

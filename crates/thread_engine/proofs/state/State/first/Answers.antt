@@ -12,5 +12,5 @@ pub with_frame-requires : goal.with_frame-requires
 with_frame-requires c =
     let arguments = c.new.result.items in
     let small : length_of (opened protected c.args.code.now c.args.code.now.entry arguments) ≤ 18432 =
-      opened_is_small c.args.code.now c.args.code.now.entry arguments c.requires in
+    opened_is_small c.args.code.now c.args.code.now.entry arguments c.requires in
     subst (λ (f : Frame Value). length_of f < 4294967296) (sym c.in_ok-top.ensures) (omega (arith, small))

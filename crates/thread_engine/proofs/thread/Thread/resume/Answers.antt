@@ -15,7 +15,7 @@ pub returns-clause-sound : goal.returns-clause-sound
 returns-clause-sound c =
     let code = c.args.code.now in
     resumed_is_sound code c.self.inside.number c.self.inside.state c.resume.new.self c.args.answer c.resume.result c.requires.valid
-      (subst (λ (t : ThreadState). IsSound code t.thread) (sym c.self.view_is) c.requires.sound)
-      (subst (λ (t : ThreadState). Fits (next code t.number t.thread) c.args.answer) (sym c.self.view_is) c.requires.fits)
-      (subst (λ (t : ThreadState). SlotsAreThere (next code t.number t.thread) c.args.answer) (sym c.self.view_is) c.requires.there)
-      c.resume.ensures.gives c.resume.ensures.err
+    (subst (λ (t : ThreadState). IsSound code t.thread) (sym c.self.view_is) c.requires.sound)
+    (subst (λ (t : ThreadState). Fits (next code t.number t.thread) c.args.answer) (sym c.self.view_is) c.requires.fits)
+    (subst (λ (t : ThreadState). SlotsAreThere (next code t.number t.thread) c.args.answer) (sym c.self.view_is) c.requires.there)
+    c.resume.ensures.gives c.resume.ensures.err
