@@ -1,18 +1,17 @@
-use Rattle.std.proofs.Common.{◌<◌, IfSome, map, sym, subst, arith}
+use Rattle.std.proofs.Common.{◌≡◌, ◌∙◌, true, Bool, length, map, replicate, sym, ap, subst, arith}
 use Rattle.std.proofs.lemmas.List.{length-map}
 use Rattle.safe_locals.specs.inner.Marks.{AreJudged}
 use Rattle.safe_locals.proofs.Serving.{here}
 use Rattle.safe_locals.proofs.Judging.{judged_all, judged_first}
-use Rattle.safe_locals.proofs.MarksTell.{marks_first}
-use Rattle.safe_locals.proofs.body.safe_in.Goals as goal
+use Rattle.safe_locals.proofs.body.judge_locals.Goals as goal
 
 pub loop-place-init : goal.loop-place-init
 loop-place-init g c =
     let code = map g.I.HasOutline.outline c.args.code.now in
+    let all : c.fill.new.self ≡ replicate (length c.args.safe.now) true = c.fill.ensures.after (λ y e. e) in
     record {
-      marks = marks_first code c.in_ok-marks.marks c.in_ok-marks.ensures.none;
-      many = c.in_ok-marks.ensures.many;
-      judged = subst (AreJudged code c.args.units.now 0 0) (sym c.in_ok-safe.ensures) (judged_first c.args.units.now);
+      marks = c.new-marks.ensures code;
+      judged = subst (AreJudged code c.args.units.now 0 0) (sym (all ∙ ap (λ n. replicate n true) c.requires.each)) (judged_first c.args.units.now);
     }
 
 pub judge-requires-clause-here : goal.judge-requires-clause-here
@@ -23,8 +22,7 @@ pass-requires-clause-here g c = here g.I.HasOutline.outline c.args.code.now c.lo
 
 pub pass-requires-clause-defined : goal.pass-requires-clause-defined
 pass-requires-clause-defined g c =
-    subst (λ n. IfSome (g.I.HasOutline.outline c.index-code-place.result).defined (λ d. d < n)) (sym c.loop-place.invariant.many)
-    (c.requires.defined c.loop-place.place _ (here g.I.HasOutline.outline c.args.code.now c.loop-place.place c.index-code-place.result c.loop-place-test.true c.index-code-place.is))
+    c.requires.defined c.loop-place.place _ (here g.I.HasOutline.outline c.args.code.now c.loop-place.place c.index-code-place.result c.loop-place-test.true c.index-code-place.is)
 
 pub returns : goal.returns
 returns g c =
