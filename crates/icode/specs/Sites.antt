@@ -1,6 +1,8 @@
 -- What stands beside the instruction at a place: the unit of a safe local that it accesses, and where the pointer of an
 -- indirect call is read.
-use Rattle.std.specs.Prelude.{◌≡◌, ◌≤◌, ℕ, IsTrue, IfSome, List, Option, Some, None, slice_get}
+use Rattle.std.specs.Prelude.{◌≡◌, ◌≤◌, ℕ, IsTrue, IfSome, List, Option, Some, None, length, slice_get}
+use Rattle.core_ir.specs.declared.program.Function.{Function}
+use Rattle.core_ir.specs.declared.program.Local.{Local}
 use Rattle.core_ir.specs.declared.role.Role.{Role}
 use Rattle.core_ir.specs.declared.role.Role.TheVariants as role
 use Rattle.core_ir.specs.Order.{RoleFits}
@@ -8,7 +10,7 @@ use Rattle.core_ir.specs.Outline.{Outline}
 use Rattle.core_ir.specs.SafeLocal.{IsSafe}
 use Rattle.machine.specs.declared.code.CodeLocal.{CodeLocal}
 use Rattle.machine.specs.declared.code.Origin.{Origin}
-use Rattle.machine.specs.Stands.{IsOriginOf, IsUnitOf, accessed}
+use Rattle.machine.specs.Stands.{IsOriginOf, IsUnitOf, LocalStands, accessed}
 use Rattle.machine.specs.ValidCode.{CodeLocalsLie, code_local_units}
 use Rattle.icode.specs.declared.site.Site.{Site}
 use Rattle.icode.specs.declared.sites.Sites.{Sites}
@@ -30,6 +32,15 @@ pub record AreLocals (code : List Outline) (locals : List CodeLocal) : Type 0 wh
       → slice_get locals v ≡ Some l
       → IsTrue l.safe
       → IsSafe code v l.units
+
+-- these stand for the locals of a function, one for each
+pub record LocalsStand (f : Function) (locals : List CodeLocal) : Type 0 where
+  pub count : length locals ≡ length f.locals
+  pub each :
+      (v : ℕ) (l : Local) (m : CodeLocal)
+      → slice_get f.locals v ≡ Some l
+      → slice_get locals v ≡ Some m
+      → LocalStands f v l m
 
 -- an access's first operand is its address
 abbrev pub NamesAddress : Outline → Type 0

@@ -5,6 +5,7 @@ mod limits;
 mod locals;
 mod marked;
 mod range;
+mod says;
 mod site;
 mod sites;
 mod theorems;
@@ -18,5 +19,7 @@ pub use machine::{
 };
 pub use site::Site;
 pub use sites::Sites;
-pub use theorems::standing_code_is_valid;
+pub use theorems::{
+    accesses_name_addresses, standing_code_is_valid, standing_locals_are_locals,
+};
 pub use validity::valid_code;

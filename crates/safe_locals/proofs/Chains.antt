@@ -9,14 +9,20 @@ use Rattle.safe_locals.specs.inner.Marks.{EndsChain, Reads}
 use Rattle.safe_locals.proofs.Serving.{one_role, one_server}
 use Rattle.safe_locals.proofs.Addresses.{AddressBy, by_role}
 
-module _ {code : List Outline} where
-  -- what serves the register ends its chain
-  pub record Link (u r first : ℕ) : Type 0 where
-    pub server : ℕ
-    pub serves : Serves code 0 server u r
-    pub reads : Reads code server first
+-- what serves the register ends its chain
+pub record Link (code : List Outline) (u r first : ℕ) : Type 0 where
+  pub server : ℕ
+  pub serves : Serves code 0 server u r
+  pub reads : Reads code server first
 
-  pub link : {u r first : ℕ} → Chain code 0 u r first → Link u r first
+no_both : (code : List Outline) (s first v : ℕ) (o : ℤ) (by : Role) → AddressBy code s by v o → EndsChain code s by first → ⊥
+no_both code s first v o (role.Local w) a e = e
+no_both code s first v o (role.Shifted p n) a e = e
+no_both code s first v o (role.Indexed p i n) a e = e
+no_both code s first v o _ a e = a
+
+module _ {code : List Outline} where
+  pub link : {u r first : ℕ} → Chain code 0 u r first → Link code u r first
   link (from_load s u r p serves has) = record { server = s; serves = serves; reads = record { by = role.Load p; has = has; ends = refl } }
   link (from_slot s u r n serves has) = record { server = s; serves = serves; reads = record { by = role.Slot n; has = has; ends = refl } }
   link (through s u r a k serves has c) = record { server = s; serves = serves; reads = record { by = role.Cast a; has = has; ends = c } }
@@ -45,24 +51,18 @@ module _ {code : List Outline} where
   one_chain {l} (through s u r a k serves has d) c =
       let e : Chain code 0 s a l = ends_at s u r l (role.Cast a) serves has c in one_chain d e
 
-  one_end : (s k l : ℕ) (by : Role) → EndsChain code s by k → EndsChain code s by l → k ≡ l
-  one_end s k l (role.Load p) a b = a ∙ sym b
-  one_end s k l (role.Slot n) a b = a ∙ sym b
-  one_end s k l (role.Cast r) a b = one_chain a b
-  one_end s k l _ a b = absurd a
-
-  pub one_read : (s k l : ℕ) → Reads code s k → Reads code s l → k ≡ l
-  one_read s k l a b = one_end s k l a.by a.ends (ends_by s l a.by a.has b)
-
   -- what ends a chain is no number and no address
   pub number_no_chain : (s first : ℕ) (c : ℤ) → HasRole code 0 s (role.Const c) → Reads code s first → ⊥
   number_no_chain s first c has reads = ends_by s first (role.Const c) has reads
 
-  no_both : (s first v : ℕ) (o : ℤ) (by : Role) → AddressBy code s by v o → EndsChain code s by first → ⊥
-  no_both s first v o (role.Local w) a e = e
-  no_both s first v o (role.Shifted p n) a e = e
-  no_both s first v o (role.Indexed p i n) a e = e
-  no_both s first v o _ a e = a
-
   pub address_no_chain : (s first v : ℕ) (o : ℤ) → IsAddress code s v o → Reads code s first → ⊥
-  address_no_chain s first v o a reads = no_both s first v o reads.by (by_role reads.by reads.has a) reads.ends
+  address_no_chain s first v o a reads = no_both code s first v o reads.by (by_role reads.by reads.has a) reads.ends
+
+one_end : (code : List Outline) (s k l : ℕ) (by : Role) → EndsChain code s by k → EndsChain code s by l → k ≡ l
+one_end code s k l (role.Load p) a b = a ∙ sym b
+one_end code s k l (role.Slot n) a b = a ∙ sym b
+one_end code s k l (role.Cast r) a b = one_chain a b
+one_end code s k l _ a b = absurd a
+
+pub one_read : {code : List Outline} (s k l : ℕ) → Reads code s k → Reads code s l → k ≡ l
+one_read {code} s k l a b = one_end code s k l a.by a.ends (ends_by s l a.by a.has b)

@@ -1,5 +1,7 @@
 -- The locals of a function of code: its frame, and tables by their numbers.
-use Rattle.std.specs.Prelude.{◌≡◌, ◌<◌, ℕ, List, Some, length, slice_get, slice_index, take, if◌then◌else◌}
+use Rattle.std.specs.Prelude.{◌≡◌, ◌<◌, ℕ, Bool, false, List, Some, IfSome, length, slice_get, slice_index, slice_index_or, take}
+use Rattle.core_ir.specs.Flow.{Stands}
+use Rattle.core_ir.specs.Outline.{Outline}
 use Rattle.machine.specs.declared.code.CodeFunction.{CodeFunction}
 use Rattle.machine.specs.declared.code.CodeLocal.{CodeLocal}
 use Rattle.machine.specs.Stands.{safe_units}
@@ -22,3 +24,11 @@ AreUnits locals units = (v : ℕ) (l : CodeLocal) → slice_get locals v ≡ Som
 -- the table has for each local the units of the safe ones before it
 abbrev pub AreUnitsBefore : List CodeLocal → List ℕ → Type 0
 AreUnitsBefore locals before = (v : ℕ) → v < length locals → slice_index before v ≡ safe_units (take v locals)
+
+-- the marks are these
+abbrev pub MarksAre : List CodeLocal → List Bool → Type 0
+MarksAre locals safe = (v : ℕ) (l : CodeLocal) → slice_get locals v ≡ Some l → l.safe ≡ slice_index_or safe v false
+
+-- no instruction defines a register past the most that a function may have
+abbrev pub DefinesFew : List Outline → Type 0
+DefinesFew code = (u : ℕ) (i : Outline) → Stands code 0 u i → IfSome i.defined (λ d. d < 1024)

@@ -1,0 +1,13 @@
+mod Lists
+mod SameOutlines
+mod LocalsStand
+mod RangesStand
+mod SensitiveTouches
+mod PlacesSay
+mod StandingCode
+mod SafeUnits
+mod Units
+mod Origins
+mod Says
+mod Addresses
+mod StandingLocals
