@@ -8,6 +8,8 @@ mod StandingCode
 mod SafeUnits
 mod Units
 mod Origins
-mod Says
+mod SiteIsSaid
 mod Addresses
 mod StandingLocals
+mod MarksAreSafe
+mod FewRegisters

@@ -15,7 +15,6 @@ use Rattle.machine.specs.Outlines.{outline_of_code}
 use Rattle.machine.specs.Stands.{IsOriginOf, IsUnitOf, accessed}
 use Rattle.machine.specs.ValidCode.{SaysWhere}
 
-
 module _ (c : CodeFunction) (k : ℕ) (x : Context) where
   abbrev outlines : List Outline
   outlines = map outline_of_code c.body

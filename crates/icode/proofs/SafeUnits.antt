@@ -1,6 +1,6 @@
 -- Sums of the units of locals.
-use Rattle.std.proofs.Common.{◌≡◌, ◌∙◌, ℕ, zero, suc, ◌+◌, ◌≤◌, Bool, true, false, List, [], ◌∷◌, length, take, Some, slice_get, if◌then◌else◌, refl, sym, ap, subst, arith, add-one}
-use Rattle.std.proofs.lemmas.Option.{none-some, same_Some}
+use Rattle.std.proofs.Common.{◌≡◌, ◌∙◌, ℕ, zero, suc, ◌+◌, ◌<◌, ◌≤◌, Bool, true, false, List, [], ◌∷◌, length, take, get_or, Some, slice_get, if◌then◌else◌, refl, sym, ap, subst, arith, add-one}
+use Rattle.std.proofs.lemmas.Option.{none-some, same_Some, slice_get-get_or}
 use Rattle.machine.specs.declared.code.CodeLocal.{CodeLocal}
 use Rattle.machine.specs.Stands.{safe_part, safe_units}
 use Rattle.machine.specs.ValidCode.{CodeLocalsLie, code_local_units}
@@ -30,6 +30,12 @@ take_next_by (x ∷ ls) (suc n) l is = let rest = take_next_by ls n l is in omeg
 -- one local more
 pub take_next : (ls : List CodeLocal) (n : ℕ) (l : CodeLocal) → slice_get ls n ≡ Some l → safe_units (take (n + 1) ls) ≡ safe_units (take n ls) + safe_part l
 take_next ls n l is = rw add-one (take_next_by ls n l is)
+
+-- as the code reads it
+pub take_next_read : (ls : List CodeLocal) (n : ℕ) (d : CodeLocal) (part : ℕ) → n < length ls → part ≡ safe_part (get_or ls n d)
+    → safe_units (take n ls) + part ≡ safe_units (take (n + 1) ls)
+take_next_read ls n d part low is =
+    ap (λ x. safe_units (take n ls) + x) is ∙ sym (take_next ls n (get_or ls n d) (slice_get-get_or ls n d low))
 
 -- as each has a unit
 pub count_le : (at : ℕ) (ls : List CodeLocal) → CodeLocalsLie at ls → length ls ≤ code_local_units ls

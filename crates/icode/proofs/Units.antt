@@ -38,9 +38,9 @@ module _ (code : List Outline) (locals : List CodeLocal) (k p : ℕ) (a : Option
 
   module _ (i : Outline) (there : Stands code 0 k i) (access : accessed i.role ≡ Some p) (names : slice_get i.used 0 ≡ Some p) (are : AreLocals code locals) where
     inside_of : (b : LocalAddress) → a ≡ Some b → (l : CodeLocal) → slice_get locals b.local ≡ Some l → IsInsideOf b l
-    inside_of b is l at yes =
+    inside_of b is l at safe =
         let h = (tells b.local b.offset).1 (subst (λ x. IsAddressOf x b.local b.offset) (sym is) (refl, refl)) in
-        elim (are.safe b.local l at yes h.server k 0 p b.offset i h.address h.serves there names) [
+        elim (are.safe b.local l at safe h.server k 0 p b.offset i h.address h.serves there names) [
           | inl moved ↦ absurd (no_move i.role i there refl access moved)
           | inr accesses ↦ accesses.1
         ]

@@ -19,7 +19,5 @@ pub use machine::{
 };
 pub use site::Site;
 pub use sites::Sites;
-pub use theorems::{
-    accesses_name_addresses, standing_code_is_valid, standing_locals_are_locals,
-};
+pub use theorems::{accesses_name_addresses, standing_code_is_valid, standing_locals_are_locals};
 pub use validity::valid_code;

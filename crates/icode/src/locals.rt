@@ -62,6 +62,7 @@ fn is_laid_out(function: &CodeFunction) -> bool
 /// Whether the frame of a function is its locals, one behind the other, and its safe units are those of
 /// its safe locals.
 pub(crate) fn is_framed(function: &CodeFunction) -> bool
+    requires { function.now.frame_units ≤ 16384 }
     ensures { IsTrue result ↔ AreFramed function.now }
 {
     if !is_laid_out(function) {

@@ -73,7 +73,10 @@ fn fits(code: &Code, function: &CodeFunction, instr: &CodePlace) -> bool
     match instr {
         CodePlace::AddrG { address, units, .. } => lies_in_globals(*address, *units),
         CodePlace::AddrL {
-            v, offset, units, ..
+            v,
+            offset,
+            units,
+            ..
         } => is_local_of(function, *v, *offset, *units),
         CodePlace::AddrF { f, .. } => (*f as usize) < code.functions.len(),
         CodePlace::Binary { op, .. } => is_binary(*op),

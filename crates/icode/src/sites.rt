@@ -17,6 +17,7 @@ use crate::where_read::origin_of;
 use core_ir::{HasOutline, Role};
 use machine::CodeLocal;
 use safe_locals::{LocalAddress, Marks};
+use sqlite_items::at;
 
 /// What is known at a place of a function's body. It takes some 120 kilobytes.
 #[derive(Drop)]
@@ -64,17 +65,33 @@ impl Sites {
         }
     }
 
+    /// The unit at an address in a local, if that is safe.
+    fn unit_in_local(&self, locals: &[CodeLocal], address: LocalAddress) -> Option<u32>
+        requires before { spec.AreBefore locals.now self.now }
+        requires room { length locals.now ≤ 16384 }
+        requires few { code_local_units locals.now ≤ 16384 }
+        requires inside { StaysInside locals.now (Some address) }
+        ensures { result ≡ spec.unit_at locals.now (Some address) }
+    {
+        let number = address.local as usize;
+        match at(locals, number) {
+            Some(local) => unit_in(local, self.before[number], address),
+            None => None,
+        }
+    }
+
     /// The unit at an address, if that is in a safe local.
     fn unit_at(&self, locals: &[CodeLocal], address: Option<LocalAddress>) -> Option<u32>
         requires before { spec.AreBefore locals.now self.now }
+        requires room { length locals.now ≤ 16384 }
         requires few { code_local_units locals.now ≤ 16384 }
         requires inside { StaysInside locals.now address }
         ensures { result ≡ spec.unit_at locals.now address }
     {
-        let address = address?;
-        let number = address.local as usize;
-        let local = locals.get(number)?;
-        unit_in(local, self.before[number], address)
+        match address {
+            Some(address) => self.unit_in_local(locals, address),
+            None => None,
+        }
     }
 
     /// The unit that an instruction of this role accesses at a place, if that is one of a safe local.
