@@ -9,7 +9,6 @@ mod SafeUnits
 mod Units
 mod Origins
 mod SiteIsSaid
-mod Addresses
 mod StandingLocals
 mod MarksAreSafe
 mod FewRegisters

@@ -1,6 +1,5 @@
 -- What holds of code, in the language's own words.
 use Rattle.std.specs.Prelude.{List, map}
-use Rattle.core_ir.specs.declared.instr.Instr.{Instr}
 use Rattle.core_ir.specs.declared.program.Function.{Function}
 use Rattle.core_ir.specs.declared.program.Program.{Program}
 use Rattle.core_ir.specs.Instructions.{outline_of}
@@ -9,7 +8,7 @@ use Rattle.machine.specs.declared.code.CodeLocal.{CodeLocal}
 use Rattle.machine.specs.declared.code.Code.{Code}
 use Rattle.machine.specs.Stands.{Stands}
 use Rattle.machine.specs.ValidCode.{ValidCode}
-use Rattle.icode.specs.Sites.{AreLocals, LocalsStand, NamesAddress}
+use Rattle.icode.specs.Sites.{AreLocals, LocalsStand}
 
 -- code that stands for a valid program is valid
 abbrev pub StandingCodeIsValid : Type 0
@@ -22,7 +21,3 @@ StandingLocalsAreLocals =
     → IsValidFunction program f
     → LocalsStand f locals
     → AreLocals (map outline_of f.body) locals
-
--- each touch, load and store has its address as its first operand
-abbrev pub AccessesNameAddresses : Type 0
-AccessesNameAddresses = (i : Instr) → NamesAddress (outline_of i)

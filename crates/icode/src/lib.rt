@@ -17,7 +17,8 @@ pub use machine::{
     Code, CodeFunction, CodeFunctionList, CodeLocal, CodeLocalList, CodePlace, CodePlaceList,
     Origin, ScalarKind,
 };
+pub use locals::units_of_safe;
 pub use site::Site;
 pub use sites::Sites;
-pub use theorems::{accesses_name_addresses, standing_code_is_valid, standing_locals_are_locals};
+pub use theorems::{standing_code_is_valid, standing_locals_are_locals};
 pub use validity::valid_code;

@@ -36,14 +36,14 @@ fn units_of_locals(locals: &[CodeLocal]) -> Option<u64>
     Some(offset)
 }
 
-/// The sum of the units of safe locals.
-fn units_of_safe_locals(locals: &[CodeLocal]) -> u64
-    requires { code_local_units locals.now ≤ 2 ^ 32 }
+/// The units of the safe ones among locals.
+pub fn units_of_safe(locals: &[CodeLocal]) -> u32
+    requires { code_local_units locals.now ≤ 16384 }
     ensures { result ≡ safe_units locals.now }
 {
     let mut units = 0;
     for local in locals {
-        units += u64::from(safe_part(local));
+        units += safe_part(local);
     }
     units
 }
@@ -68,7 +68,7 @@ pub(crate) fn is_framed(function: &CodeFunction) -> bool
     if !is_laid_out(function) {
         return false;
     }
-    units_of_safe_locals(function.locals.as_slice()) == u64::from(function.safe_units)
+    units_of_safe(function.locals.as_slice()) == function.safe_units
 }
 
 /// Writes the units of each local.

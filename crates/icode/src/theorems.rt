@@ -1,6 +1,6 @@
 //! The laws of code.
 
-ghost use Rattle.icode.specs.Theorems.{AccessesNameAddresses, StandingCodeIsValid, StandingLocalsAreLocals};
+ghost use Rattle.icode.specs.Theorems.{StandingCodeIsValid, StandingLocalsAreLocals};
 
 use sensitivity::{
     arrays_are_as_their_elements, classes_are_unique, holders_are_sensitive, pointers_hold,
@@ -19,9 +19,4 @@ pub fn standing_code_is_valid()
 /// What stands for the locals of a valid function lies in its frame, and just the safe ones are marked.
 pub fn standing_locals_are_locals()
     ensures { StandingLocalsAreLocals }
-{}
-
-/// Each touch, load and store of a program has its address as its first operand.
-pub fn accesses_name_addresses()
-    ensures { AccessesNameAddresses }
 {}

@@ -1,6 +1,6 @@
 //! The code of an instruction: what its types decide.
 
-ghost use Rattle.std.specs.Prelude.{◌≡◌, IfOk, option_copied};
+ghost use Rattle.std.specs.Prelude.{◌≡◌, IfOk, Some, slice_get};
 ghost use Rattle.instrument.specs.inner.Places.{IsDecided, IsGlobal, IsLocal};
 
 use crate::copies::copy_function;
@@ -43,18 +43,25 @@ fn call_indirect(
     })
 }
 
-/// The code of a global's address.
-fn global(classes: &ClassTable, d: u32, g: u32, global: Option<&GlobalVar>) -> CodePlace
-    ensures { IsGlobal classes.now d g (option_copied global) result }
+/// The code of the address of this global.
+fn global_code(classes: &ClassTable, d: u32, g: u32, variable: &GlobalVar) -> CodePlace
+    ensures { IsGlobal classes.now d g (Some variable.now) result }
 {
-    match global {
-        Some(variable) => CodePlace::AddrG {
-            d,
-            g,
-            address: variable.address,
-            units: variable.units,
-            kept: keeps_bounds(classes, &variable.ty),
-        },
+    CodePlace::AddrG {
+        d,
+        g,
+        address: variable.address,
+        units: variable.units,
+        kept: keeps_bounds(classes, &variable.ty),
+    }
+}
+
+/// The code of a global's address.
+fn global(classes: &ClassTable, program: &Program, d: u32, g: u32) -> CodePlace
+    ensures { IsGlobal classes.now d g (slice_get program.now.globals g) result }
+{
+    match program.globals.get(g as usize) {
+        Some(variable) => global_code(classes, d, g, variable),
         None => CodePlace::AddrG {
             d,
             g,
@@ -65,18 +72,25 @@ fn global(classes: &ClassTable, d: u32, g: u32, global: Option<&GlobalVar>) -> C
     }
 }
 
-/// The code of a frame local's address.
-fn local(classes: &ClassTable, d: u32, v: u32, local: Option<&Local>) -> CodePlace
-    ensures { IsLocal classes.now d v (option_copied local) result }
+/// The code of the address of this frame local.
+fn local_code(classes: &ClassTable, d: u32, v: u32, variable: &Local) -> CodePlace
+    ensures { IsLocal classes.now d v (Some variable.now) result }
 {
-    match local {
-        Some(variable) => CodePlace::AddrL {
-            d,
-            v,
-            offset: variable.offset,
-            units: variable.units,
-            kept: keeps_bounds(classes, &variable.ty),
-        },
+    CodePlace::AddrL {
+        d,
+        v,
+        offset: variable.offset,
+        units: variable.units,
+        kept: keeps_bounds(classes, &variable.ty),
+    }
+}
+
+/// The code of a frame local's address.
+fn local(classes: &ClassTable, function: &Function, d: u32, v: u32) -> CodePlace
+    ensures { IsLocal classes.now d v (slice_get function.now.locals v) result }
+{
+    match function.locals.get(v as usize) {
+        Some(variable) => local_code(classes, d, v, variable),
         None => CodePlace::AddrL {
             d,
             v,
@@ -104,8 +118,8 @@ pub(crate) fn decide(
 {
     match instr {
         Instr::Const { d, v } => Ok(CodePlace::Const { d: *d, v: *v }),
-        Instr::AddrG { d, g } => Ok(global(classes, *d, *g, program.globals.get(*g as usize))),
-        Instr::AddrL { d, v } => Ok(local(classes, *d, *v, function.locals.get(*v as usize))),
+        Instr::AddrG { d, g } => Ok(global(classes, program, *d, *g)),
+        Instr::AddrL { d, v } => Ok(local(classes, function, *d, *v)),
         Instr::AddrF { d, f } => Ok(CodePlace::AddrF { d: *d, f: *f }),
         Instr::GetLocal { d, s } => Ok(CodePlace::GetLocal { d: *d, s: *s }),
         Instr::SetLocal { s, a } => Ok(CodePlace::SetLocal { s: *s, a: *a }),

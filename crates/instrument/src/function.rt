@@ -7,9 +7,9 @@ ghost use Rattle.instrument.specs.inner.Places.{StandsBy};
 
 use crate::body::places;
 use crate::copies::copy_function;
-use crate::locals::{code_locals, units_of_safe};
+use crate::locals::code_locals;
 use core_ir::{Function, Program};
-use icode::standing_locals_are_locals;
+use icode::{standing_locals_are_locals, units_of_safe};
 use machine::CodeFunction;
 use sensitivity::ClassTable;
 use std::alloc::{AllocError, Global};

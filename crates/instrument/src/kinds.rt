@@ -2,10 +2,8 @@
 
 ghost use Rattle.std.specs.Prelude.{◌≡◌, List};
 ghost use Rattle.c_types.specs.declared.structs.StructDef.{StructDef};
-ghost use Rattle.c_types.specs.declared.ty.Ty.{Ty as Type, out-Ty};
-ghost use Rattle.c_types.specs.declared.ty.Ty.TheVariants as ty;
-ghost use Rattle.sensitivity.specs.Classes.{AreClasses, HasClass};
-ghost use Rattle.sensitivity.specs.declared.class.Class.{Class as ClassOf};
+ghost use Rattle.c_types.specs.declared.ty.Ty.{Ty, out-Ty};
+ghost use Rattle.sensitivity.specs.declared.class.Class.{Class};
 ghost use Rattle.machine.specs.Decided as spec;
 ghost use Rattle.instrument.specs.inner.Places.{AreClassesOf, keeps};
 
@@ -15,7 +13,7 @@ use sensitivity::{Class, ClassTable, classes_are_unique};
 
 /// The class of a type.
 fn class_of(classes: &ClassTable, ty: &Ty) -> Class
-    ensures { (defs : List StructDef) (class : Type → ClassOf) → AreClassesOf defs classes.now class
+    ensures { (defs : List StructDef) (class : Ty → Class) → AreClassesOf defs classes.now class
         → result ≡ class ty.now }
 {
     classes_are_unique();
@@ -24,8 +22,8 @@ fn class_of(classes: &ClassTable, ty: &Ty) -> Class
 
 /// The class of a pointer to a type.
 pub(crate) fn class_of_pointer(classes: &ClassTable, target: &Ty) -> Class
-    ensures { (defs : List StructDef) (class : Type → ClassOf) → AreClassesOf defs classes.now class
-        → result ≡ class (ty.Pointer target.now) }
+    ensures { (defs : List StructDef) (class : Ty → Class) → AreClassesOf defs classes.now class
+        → result ≡ class (Ty.Pointer target.now) }
 {
     classes_are_unique();
     classes.class_of_pointer(target)
@@ -54,7 +52,7 @@ fn kind_at(class: Class, ty: &Ty) -> ScalarKind
 
 /// The kind of a type.
 pub(crate) fn kind_of(classes: &ClassTable, ty: &Ty) -> ScalarKind
-    ensures { (defs : List StructDef) (class : Type → ClassOf) → AreClassesOf defs classes.now class
+    ensures { (defs : List StructDef) (class : Ty → Class) → AreClassesOf defs classes.now class
         → result ≡ spec.kind_at (class ty.now) (out-Ty ty.now) }
 {
     kind_at(class_of(classes, ty), ty)
@@ -69,7 +67,7 @@ fn is_regular(class: Class) -> bool
 
 /// Whether pointers to a variable of this type keep its bounds.
 pub(crate) fn keeps_bounds(classes: &ClassTable, target: &Ty) -> bool
-    ensures { (defs : List StructDef) (class : Type → ClassOf) → AreClassesOf defs classes.now class
+    ensures { (defs : List StructDef) (class : Ty → Class) → AreClassesOf defs classes.now class
         → result ≡ keeps class target.now }
 {
     !is_regular(class_of_pointer(classes, target))

@@ -1,9 +1,6 @@
 //! The locals of code.
 
-ghost use Rattle.std.specs.Prelude.{◌≡◌, ◌≤◌, IfOk, List, length};
-ghost use Rattle.machine.specs.Stands.{safe_units};
-ghost use Rattle.machine.specs.Stands as stands;
-ghost use Rattle.machine.specs.ValidCode.{code_local_units};
+ghost use Rattle.std.specs.Prelude.{◌≡◌, IfOk};
 ghost use Rattle.icode.specs.Sites.{LocalsStand};
 ghost use Rattle.safe_locals.specs.Safe.{AreSafe};
 
@@ -39,23 +36,4 @@ pub(crate) fn code_locals(
         locals.push(code_local(local, safe[number]))?;
     }
     Ok(locals)
-}
-
-/// The units of a local on the safe stack.
-fn safe_part(local: &CodeLocal) -> u32
-    ensures { result ≡ stands.safe_part local.now }
-{
-    if local.safe { local.units } else { 0 }
-}
-
-/// The units of safe locals.
-pub(crate) fn units_of_safe(locals: &[CodeLocal]) -> u32
-    requires { code_local_units locals.now ≤ 16384 }
-    ensures { result ≡ safe_units locals.now }
-{
-    let mut units = 0;
-    for local in locals {
-        units += safe_part(local);
-    }
-    units
 }

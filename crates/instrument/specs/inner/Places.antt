@@ -15,7 +15,7 @@ use Rattle.machine.specs.declared.code.CodeFunction.{CodeFunction}
 use Rattle.machine.specs.declared.code.CodeLocal.{CodeLocal}
 use Rattle.machine.specs.declared.code.CodePlace.{CodePlace}
 use Rattle.machine.specs.Decided.{Context, decided, global_code, is_regular, local_code}
-use Rattle.machine.specs.Stands.{FunctionStands}
+use Rattle.machine.specs.Stands.{FunctionStands, LocalStands}
 use Rattle.icode.specs.declared.site.Site.{Site}
 use Rattle.icode.specs.Sites.{IsSite}
 
@@ -60,6 +60,15 @@ pub record AreMade (program : Program) (f : Function) (classes : List Class) (lo
       → slice_get f.body k ≡ Some i
       → slice_get places k ≡ Some place
       → IsMade program f classes locals k i place
+
+-- these stand for the first so many locals of a function
+pub record StandUpto (f : Function) (upto : ℕ) (locals : List CodeLocal) : Type 0 where
+  pub count : length locals ≡ upto
+  pub each :
+      (v : ℕ) (l : Local) (m : CodeLocal)
+      → slice_get f.locals v ≡ Some l
+      → slice_get locals v ≡ Some m
+      → LocalStands f v l m
 
 -- the code of a function stands for it
 abbrev pub StandsBy : Program → List Class → Function → CodeFunction → Type 0

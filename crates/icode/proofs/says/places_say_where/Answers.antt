@@ -10,7 +10,6 @@ use Rattle.machine.specs.ValidCode.{SaysWhere}
 use Rattle.icode.specs.Sites.{AreLocals, IsSite, KnowsSites}
 use Rattle.icode.specs.inner.Locals.{DefinesFew}
 use Rattle.icode.proofs.Lists.{place_here}
-use Rattle.icode.proofs.Addresses.{code_names}
 use Rattle.icode.proofs.SiteIsSaid.{says_where}
 use Rattle.icode.proofs.says.places_say_where.Goals as goal
 
@@ -33,9 +32,6 @@ at-requires-clause-fits c =
     let here = place_here outline_of_code c.as_slice-body.result.now c.loop-place.place c.index-body-place.result c.loop-place-test.true c.index-body-place.is in
     let ordered = subst (λ body. IsOrdered (map outline_of_code body)) (sym c.as_slice-body.ensures) c.requires.ordered in
     (ordered.each c.loop-place.place (outline_of_code c.index-body-place.result) here).fits
-
-pub at-requires-clause-names : goal.at-requires-clause-names
-at-requires-clause-names c = code_names c.index-body-place.result
 
 pub at-requires-clause-locals : goal.at-requires-clause-locals
 at-requires-clause-locals c =
