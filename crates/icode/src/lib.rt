@@ -13,11 +13,11 @@ mod touches;
 mod validity;
 mod where_read;
 
+pub use locals::units_of_safe;
 pub use machine::{
     Code, CodeFunction, CodeFunctionList, CodeLocal, CodeLocalList, CodePlace, CodePlaceList,
     Origin, ScalarKind,
 };
-pub use locals::units_of_safe;
 pub use site::Site;
 pub use sites::Sites;
 pub use theorems::{standing_code_is_valid, standing_locals_are_locals};

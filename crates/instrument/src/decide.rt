@@ -123,10 +123,28 @@ pub(crate) fn decide(
         Instr::AddrF { d, f } => Ok(CodePlace::AddrF { d: *d, f: *f }),
         Instr::GetLocal { d, s } => Ok(CodePlace::GetLocal { d: *d, s: *s }),
         Instr::SetLocal { s, a } => Ok(CodePlace::SetLocal { s: *s, a: *a }),
-        Instr::Binary { d, op, a, b } => Ok(CodePlace::Binary { d: *d, op: *op, a: *a, b: *b }),
-        Instr::Unary { d, op, a } => Ok(CodePlace::Unary { d: *d, op: *op, a: *a }),
-        Instr::PtrAdd { d, p, i, s } => Ok(CodePlace::PtrAdd { d: *d, p: *p, i: *i, s: *s }),
-        Instr::PtrConst { d, p, k } => Ok(CodePlace::PtrConst { d: *d, p: *p, k: *k }),
+        Instr::Binary { d, op, a, b } => Ok(CodePlace::Binary {
+            d: *d,
+            op: *op,
+            a: *a,
+            b: *b,
+        }),
+        Instr::Unary { d, op, a } => Ok(CodePlace::Unary {
+            d: *d,
+            op: *op,
+            a: *a,
+        }),
+        Instr::PtrAdd { d, p, i, s } => Ok(CodePlace::PtrAdd {
+            d: *d,
+            p: *p,
+            i: *i,
+            s: *s,
+        }),
+        Instr::PtrConst { d, p, k } => Ok(CodePlace::PtrConst {
+            d: *d,
+            p: *p,
+            k: *k,
+        }),
         Instr::Cast { d, a, from, to } => Ok(CodePlace::Cast {
             d: *d,
             a: *a,
@@ -153,9 +171,7 @@ pub(crate) fn decide(
         Instr::Jump { l } => Ok(CodePlace::Jump { l: *l }),
         Instr::Branch { a, l } => Ok(CodePlace::Branch { a: *a, l: *l }),
         Instr::Call { f, args, s } => call(alloc, *f, args, *s),
-        Instr::CallInd { c, args, ty, s } => {
-            call_indirect(alloc, *c, args, ty, *s, site.origin)
-        }
+        Instr::CallInd { c, args, ty, s } => { call_indirect(alloc, *c, args, ty, *s, site.origin) }
         Instr::Return { a } => Ok(CodePlace::Return { a: *a }),
         Instr::Enter => Ok(CodePlace::Enter),
         Instr::Leave => Ok(CodePlace::Leave),

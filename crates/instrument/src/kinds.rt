@@ -47,7 +47,11 @@ fn kind_at(class: Class, ty: &Ty) -> ScalarKind
     if is_pointer(ty) {
         return kind_of_class(class);
     }
-    if is_char(ty) { ScalarKind::Char } else { ScalarKind::Int }
+    if is_char(ty) {
+        ScalarKind::Char
+    } else {
+        ScalarKind::Int
+    }
 }
 
 /// The kind of a type.

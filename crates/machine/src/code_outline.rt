@@ -95,7 +95,9 @@ impl HasOutline for CodePlace {
     fn operand(&self, at: usize) -> u32 {
         match self {
             CodePlace::Call { args, .. } => args.as_slice()[at],
-            CodePlace::CallInd { c, args, .. } => { if at == 0 { *c } else { args.as_slice()[at - 1] } }
+            CodePlace::CallInd { c, args, .. } => {
+                if at == 0 { *c } else { args.as_slice()[at - 1] }
+            }
             CodePlace::Binary { a, b, .. } => either(at, *a, *b),
             CodePlace::PtrAdd { p, i, .. } => either(at, *p, *i),
             CodePlace::Store { p, a, .. } => either(at, *p, *a),
