@@ -1,5 +1,5 @@
 -- A body within its limits defines few registers.
-use Rattle.std.proofs.Common.{ℕ, ◌<◌, IfSome, length, map, nat_lt, arith}
+use Rattle.std.proofs.Common.{length, map, nat_lt, arith}
 use Rattle.std.proofs.lemmas.Option.{IfSome_then}
 use Rattle.core_ir.specs.Order.{IsWellFormed}
 use Rattle.machine.specs.declared.code.CodeFunction.{CodeFunction}

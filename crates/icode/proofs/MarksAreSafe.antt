@@ -1,6 +1,5 @@
 -- Marks that are those of the safe locals.
-use Rattle.std.proofs.Common.{◌≡◌, ◌∙◌, ◌↔◌, ℕ, Bool, true, false, IsTrue, List, Some, slice_get, slice_index_or, sym, ap, subst}
-use Rattle.std.proofs.lemmas.Bool.{both_ways}
+use Rattle.std.proofs.Common.{◌≡◌, ◌∙◌, ◌↔◌, ℕ, Bool, true, false, IsTrue, List, Some, slice_get, slice_index_or, sym}
 use Rattle.core_ir.specs.Outline.{Outline}
 use Rattle.core_ir.specs.SafeLocal.{IsSafe}
 use Rattle.machine.specs.declared.code.CodeLocal.{CodeLocal}

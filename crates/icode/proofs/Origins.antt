@@ -1,13 +1,13 @@
 -- Where a pointer is read: by the first instruction of its chain.
-use Rattle.std.proofs.Common.{◌≡◌, ◌∙◌, ℕ, List, Some, slice_get, refl, sym, ap, subst, arith}
+use Rattle.std.proofs.Common.{◌≡◌, ◌∙◌, ℕ, List, Some, slice_get, sym, ap, subst, arith}
 use Rattle.core_ir.specs.declared.role.Role.{Role}
 use Rattle.core_ir.specs.declared.role.Role.TheVariants as role
-use Rattle.core_ir.specs.Flow.{Chain, HasRole, Stands, from_load, from_slot, through}
+use Rattle.core_ir.specs.Flow.{Chain, HasRole, from_load, from_slot, through}
 use Rattle.core_ir.specs.Order.{Chained}
 use Rattle.core_ir.specs.Outline.{Outline}
 use Rattle.machine.specs.declared.code.Origin.{Origin}
 use Rattle.machine.specs.declared.code.Origin.TheVariants as origin
-use Rattle.machine.specs.Stands.{IsOrigin, IsOriginOf}
+use Rattle.machine.specs.Stands.{IsOrigin}
 use Rattle.icode.specs.inner.Sites.{IsOnlyOrigin, IsReadFrom, read_at, read_by, read_from}
 
 module _ (code : List Outline) where

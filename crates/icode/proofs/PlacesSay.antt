@@ -1,5 +1,5 @@
 -- A place of code that stands for an instruction says where it is, and that alone.
-use Rattle.std.proofs.Common.{◌≡◌, ℕ, List, map, Option, Some, None, is_some, slice_get}
+use Rattle.std.proofs.Common.{ℕ, List, map, Option, Some, None, is_some, slice_get}
 use Rattle.c_types.specs.declared.ty.Ty.TheVariants as ty
 use Rattle.core_ir.specs.declared.instr.Instr.{Instr}
 use Rattle.core_ir.specs.declared.instr.Instr.TheVariants as instr

@@ -1,6 +1,6 @@
 -- An access of the safe store stands behind a touch of class Sensitive: its type is a pointer that holds code pointers, and
 -- so does each type with such a part.
-use Rattle.std.proofs.Common.{◌≡◌, ◌∙◌, ◌≢◌, ℕ, Bool, true, List, Option, Some, None, is_some, slice_get, refl, sym, ap, subst}
+use Rattle.std.proofs.Common.{◌≡◌, ◌∙◌, ◌≢◌, ℕ, true, List, Option, Some, None, is_some, slice_get, refl, sym, ap, subst}
 use Rattle.std.proofs.lemmas.Option.{same_Some}
 use Rattle.c_types.specs.declared.structs.StructDef.{StructDef}
 use Rattle.c_types.specs.declared.ty.Ty.{Ty, out-Ty}
@@ -22,7 +22,6 @@ use Rattle.sensitivity.specs.declared.class.Class.TheVariants as class
 use Rattle.sensitivity.specs.Classes.{HasClass}
 use Rattle.sensitivity.specs.Holds.{Holds}
 use Rattle.sensitivity.specs.Theorems.{ArraysAreAsTheirElements, ClassesAreUnique, HoldersAreSensitive, PointersHold}
-use Rattle.machine.specs.declared.code.CodePlace.{CodePlace}
 use Rattle.machine.specs.declared.code.CodePlace.TheVariants as code
 use Rattle.machine.specs.declared.code.ScalarKind.{ScalarKind}
 use Rattle.machine.specs.Decided.{Context, decided, global_code, kind_at, kind_of, local_code}

@@ -1,5 +1,5 @@
 -- An instruction says that it stands at its site exactly where it says where it is.
-use Rattle.std.proofs.Common.{◌≡◌, ◌∙◌, ◌↔◌, ℕ, Bool, true, false, List, map, Option, Some, None, is_some, refl, sym, ap, subst, arith}
+use Rattle.std.proofs.Common.{◌≡◌, ◌↔◌, ℕ, Bool, true, false, List, map, Option, Some, None, is_some, refl, sym, subst, arith}
 use Rattle.core_ir.specs.Outline.{Outline}
 use Rattle.core_ir.specs.declared.role.Role.TheVariants as role
 use Rattle.sensitivity.specs.declared.class.Class.{Class}

@@ -1,5 +1,5 @@
 -- Code that stands for a valid program is valid.
-use Rattle.std.proofs.Common.{◌≡◌, ◌∙◌, ◌↔◌, ℕ, suc, ◌<◌, ◌≤◌, All, List, length, map, nat_lt, IsTrue, Some, slice_get, refl, sym, ap, subst, arith}
+use Rattle.std.proofs.Common.{◌≡◌, ◌∙◌, ℕ, suc, All, List, length, map, nat_lt, Some, slice_get, refl, sym, ap, subst, arith}
 use Rattle.std.specs.Option.{option_map}
 use Rattle.std.proofs.lemmas.Option.{same_Some, slice_get-map}
 use Rattle.c_types.specs.declared.ty.FnTy.{FnTy, out-FnTy}
@@ -10,17 +10,15 @@ use Rattle.core_ir.specs.declared.program.Program.{Program}
 use Rattle.core_ir.specs.declared.role.Role.TheVariants as role
 use Rattle.core_ir.specs.Flow.{HasRole, Stands as StandsAt}
 use Rattle.core_ir.specs.Instructions.{outline_of, role_of}
-use Rattle.core_ir.specs.Order.{Behind, IsWellFormed}
+use Rattle.core_ir.specs.Order.{IsWellFormed}
 use Rattle.core_ir.specs.Outline.{Outline}
-use Rattle.core_ir.specs.SafeLocal.{IsSafe, IsSafeLocal}
+use Rattle.core_ir.specs.SafeLocal.{IsSafe}
 use Rattle.core_ir.specs.Valid.{IsInRange, IsValid, IsValidFunction, has_locals}
 use Rattle.sensitivity.specs.Theorems.{ArraysAreAsTheirElements, ClassesAreUnique, HoldersAreSensitive, PointersHold}
 use Rattle.machine.specs.declared.code.Code.{Code}
 use Rattle.machine.specs.declared.code.CodeFunction.{CodeFunction}
-use Rattle.machine.specs.declared.code.CodeLocal.{CodeLocal}
 use Rattle.machine.specs.declared.code.CodePlace.{CodePlace}
-use Rattle.machine.specs.declared.code.ScalarKind.{ScalarKind}
-use Rattle.machine.specs.Decided.{Context, decided, kind_of}
+use Rattle.machine.specs.Decided.{Context}
 use Rattle.machine.specs.Numbers.{is_kept}
 use Rattle.machine.specs.Outlines.{outline_of_code}
 use Rattle.machine.specs.Stands.{FunctionStands, IsOriginOf, IsUnitOf, PlaceStands, Stands, accessed}

@@ -1,5 +1,5 @@
 -- What stands for the locals of a valid function lies in its frame, with the safe ones marked.
-use Rattle.std.proofs.Common.{◌≡◌, ◌∙◌, ℕ, ◌≤◌, map, Some, slice_get, sym, ap, subst, arith}
+use Rattle.std.proofs.Common.{◌≡◌, ◌∙◌, map, sym, ap, subst, arith}
 use Rattle.std.proofs.lemmas.Option.{same_Some}
 use Rattle.core_ir.specs.declared.program.Local.{Local}
 use Rattle.core_ir.specs.Instructions.{outline_of}

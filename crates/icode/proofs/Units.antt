@@ -1,13 +1,13 @@
 -- The unit at an address is that of the access.
-use Rattle.std.proofs.Common.{◌≡◌, ◌∙◌, ◌↔◌, inl, inr, ℕ, ◌+◌, Bool, true, false, cond, IsTrue, List, Option, Some, None, slice_get, take, ℤ, pos, negsuc, ◌≤ℤ◌, unsigned_abs, refl, sym, ap, subst, arith}
+use Rattle.std.proofs.Common.{◌≡◌, ◌∙◌, ◌↔◌, inl, inr, ℕ, ◌+◌, Bool, true, false, cond, List, Option, Some, None, slice_get, take, ℤ, pos, negsuc, ◌≤ℤ◌, unsigned_abs, refl, sym, ap, subst, arith}
 use Rattle.std.proofs.lemmas.Bool.{both_ways}
 use Rattle.std.proofs.lemmas.Int.{ints}
 use Rattle.std.proofs.lemmas.Option.{none-some, same_Some}
 use Rattle.core_ir.specs.declared.role.Role.{Role}
 use Rattle.core_ir.specs.declared.role.Role.TheVariants as role
-use Rattle.core_ir.specs.Flow.{HasRole, Stands}
+use Rattle.core_ir.specs.Flow.{Stands}
 use Rattle.core_ir.specs.Outline.{Outline}
-use Rattle.core_ir.specs.SafeLocal.{IsAddress, IsInside, IsMoved, by_constant, by_index}
+use Rattle.core_ir.specs.SafeLocal.{IsAddress, IsMoved, by_constant, by_index}
 use Rattle.machine.specs.declared.code.CodeLocal.{CodeLocal}
 use Rattle.machine.specs.Stands.{IsUnit, IsUnitOf, accessed, safe_units}
 use Rattle.safe_locals.specs.declared.marks.LocalAddress.{LocalAddress}

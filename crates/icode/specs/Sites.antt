@@ -1,11 +1,10 @@
 -- What stands beside the instruction at a place: the unit of a safe local that it accesses, and where the pointer of an
 -- indirect call is read.
-use Rattle.std.specs.Prelude.{◌≡◌, ◌≤◌, ℕ, IsTrue, IfSome, List, Option, Some, None, length, slice_get}
+use Rattle.std.specs.Prelude.{◌≡◌, ◌≤◌, ℕ, IsTrue, IfSome, List, Option, Some, length, slice_get}
 use Rattle.core_ir.specs.declared.program.Function.{Function}
 use Rattle.core_ir.specs.declared.program.Local.{Local}
 use Rattle.core_ir.specs.declared.role.Role.{Role}
 use Rattle.core_ir.specs.declared.role.Role.TheVariants as role
-use Rattle.core_ir.specs.Order.{RoleFits}
 use Rattle.core_ir.specs.Outline.{Outline}
 use Rattle.core_ir.specs.SafeLocal.{IsSafe}
 use Rattle.machine.specs.declared.code.CodeLocal.{CodeLocal}

@@ -19,8 +19,8 @@ fn safe_part(local: &CodeLocal) -> u32
     if local.safe { local.units } else { 0 }
 }
 
-/// The sum of the units of locals that follow one another from offset 0 on and have at least one unit
-/// each, and none where they don't.
+/// The sum of the units of locals that follow one another from offset 0 on and have at least one
+/// unit each, and none where they don't.
 fn units_of_locals(locals: &[CodeLocal]) -> Option<u64>
     ensures some { IfSome result
         (λ n. CodeLocalsLie 0 locals.now × (n ≡ code_local_units locals.now)) }
@@ -59,8 +59,8 @@ fn is_laid_out(function: &CodeFunction) -> bool
     }
 }
 
-/// Whether the frame of a function is its locals, one behind the other, and its safe units are those of
-/// its safe locals.
+/// Whether the frame of a function is its locals, one behind the other, and its safe units are those
+/// of its safe locals.
 pub(crate) fn is_framed(function: &CodeFunction) -> bool
     requires { function.now.frame_units ≤ 16384 }
     ensures { IsTrue result ↔ AreFramed function.now }

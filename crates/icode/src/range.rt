@@ -1,4 +1,5 @@
-//! Whether the numbers that an instruction of code names beside registers, slots and places are in range.
+//! Whether the numbers that an instruction of code names beside registers, slots and places are in
+//! range.
 
 ghost use Rattle.std.specs.Prelude.{◌≡◌, ◌+◌, ◌<◌, ◌↔◌, All, IsTrue, length};
 ghost use Rattle.core_ir.specs.Valid as spec;

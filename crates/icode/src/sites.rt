@@ -94,7 +94,7 @@ impl Sites {
         }
     }
 
-    /// The unit that an instruction of this role accesses at a place, if that is one of a safe local.
+    /// The unit that an instruction accesses at a place, if that is one of a safe local.
     fn unit_of<I: HasOutline>(
         &self,
         code: &[I],
@@ -106,7 +106,8 @@ impl Sites {
         requires here { Stands (map I.outline code.now) 0 place (I.outline instr.now) }
         requires names { NamesAddress (I.outline instr.now) }
         requires locals { AreLocals (map I.outline code.now) locals.now }
-        ensures { spec.IsOnlyUnit (map I.outline code.now) locals.now place (I.outline instr.now).role result }
+        ensures { let i = I.outline instr.now in
+            spec.IsOnlyUnit (map I.outline code.now) locals.now place i.role result }
     {
         match accessed(instr.role()) {
             Some(register) => self.unit_at(locals, self.marks.address(register)),
@@ -127,7 +128,8 @@ impl Sites {
         requires fits { RoleFits (map I.outline code.now) place (I.outline instr.now).role }
         requires names { NamesAddress (I.outline instr.now) }
         requires locals { AreLocals (map I.outline code.now) locals.now }
-        ensures { IsSite (map I.outline code.now) locals.now place (I.outline instr.now).role result }
+        ensures { let i = I.outline instr.now in
+            IsSite (map I.outline code.now) locals.now place i.role result }
     {
         Site {
             unit: self.unit_of(code, locals, place, instr),

@@ -16,7 +16,7 @@ pub fn standing_code_is_valid()
     holders_are_sensitive();
 }
 
-/// What stands for the locals of a valid function lies in its frame, and just the safe ones are marked.
+/// What stands for the locals of a valid function lies in its frame, and what is marked is safe.
 pub fn standing_locals_are_locals()
     ensures { StandingLocalsAreLocals }
 {}

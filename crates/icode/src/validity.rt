@@ -23,7 +23,8 @@ const MOST_FUNCTIONS: usize = 4_096;
 fn is_well_formed(function: &CodeFunction, checker: &mut BodyChecker) -> bool
     requires { CodeIsWithinLimits function.now }
     ensures { let f = function.now in
-        IsTrue result ↔ IsWellFormed f.registers f.slots (nat_lt 0 (length f.locals)) (map outline_of_code f.body) }
+        IsTrue result
+        ↔ IsWellFormed f.registers f.slots (nat_lt 0 (length f.locals)) (map outline_of_code f.body) }
 {
     let has_frame = function.locals.len() > 0;
     checker.is_well_formed(
@@ -94,8 +95,8 @@ fn has_entry(code: &Code) -> bool
     }
 }
 
-/// Whether code is valid. It goes over each body a fixed number of times, and takes no memory but its
-/// stack, of which it takes somewhat more than a megabyte.
+/// Whether code is valid. It goes over each body a fixed number of times, and takes no memory but
+/// its stack, of which it takes somewhat more than a megabyte.
 pub fn valid_code(code: &Code) -> bool
     ensures { IsTrue result ↔ ValidCode code.now }
 {

@@ -33,7 +33,8 @@ fn read_at<I: HasOutline>(code: &[I], place: u32) -> Origin
 
 /// Where the pointer in a register is read.
 fn origin_in<I: HasOutline>(marks: &Marks, code: &[I], register: u32) -> Origin
-    ensures { (u : ℕ) → Knows (map I.outline code.now) u marks.now → spec.IsReadFrom (map I.outline code.now) u register result }
+    ensures { (u : ℕ) → Knows (map I.outline code.now) u marks.now
+        → spec.IsReadFrom (map I.outline code.now) u register result }
 {
     match marks.first(register) {
         Some(first) => read_at(code, first),

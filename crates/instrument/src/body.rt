@@ -24,7 +24,8 @@ pub(crate) fn places(
 ) -> Result<CodePlaceList, AllocError>
     requires valid { IsValidFunction program.now function.now }
     requires locals { AreLocals (map outline_of function.now.body) locals.now }
-    ensures { IfOk result (λ places. AreMade program.now function.now classes.now locals.now (length function.now.body) places) }
+    ensures { let f = function.now in
+        IfOk result (AreMade program.now f classes.now locals.now (length f.body)) }
 {
     let body = function.body.as_slice();
     let mut sites = Sites::new(locals);

@@ -114,7 +114,7 @@ pub(crate) fn decide(
     instr: &Instr,
     site: Site,
 ) -> Result<CodePlace, AllocError>
-    ensures { IfOk result (λ place. IsDecided program.now function.now classes.now site instr.now place) }
+    ensures { IfOk result (IsDecided program.now function.now classes.now site instr.now) }
 {
     match instr {
         Instr::Const { d, v } => Ok(CodePlace::Const { d: *d, v: *v }),

@@ -26,7 +26,8 @@ fn functions_code(
 ) -> Result<CodeFunctionList, AllocError>
     requires valid { IsValid program.now }
     requires safe { AreAllSafe program.now safe.now }
-    ensures { IfOk result (λ functions. AreStanding program.now classes.now (length program.now.functions) functions) }
+    ensures { let p = program.now in
+        IfOk result (AreStanding p classes.now (length p.functions)) }
 {
     let mut functions = Items::new(alloc);
     for (number, function) in program.functions.as_slice().iter().enumerate() {

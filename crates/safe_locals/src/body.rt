@@ -11,8 +11,8 @@ use core_ir::HasOutline;
 use sqlite_items::Items;
 use std::alloc::{AllocError, Global};
 
-/// Which locals of these units are safe in a body: it leaves one answer for each. It goes over the body
-/// once, looks at each operand in constant time, and takes no memory but its stack.
+/// Which locals of these units are safe in a body: it leaves one answer for each. It goes over the
+/// body once, looks at each operand in constant time, and takes no memory but its stack.
 pub fn judge_locals<I: HasOutline>(code: &[I], units: &[u32], safe: &mut [bool])
     requires few { length code.now ≤ 65536 }
     requires defined { (u : ℕ) (i : Outline) → Stands (map I.outline code.now) 0 u i

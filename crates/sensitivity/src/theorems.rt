@@ -22,8 +22,8 @@ pub fn types_have_classes()
     ensures { TypesHaveClasses }
 {}
 
-/// Pointers to pointers that hold code pointers are sensitive, and so are those to structs with such a
-/// member.
+/// Pointers to pointers that hold code pointers are sensitive, and so are those to structs with such
+/// a member.
 pub fn holders_are_sensitive()
     ensures { HoldersAreSensitive }
 {}

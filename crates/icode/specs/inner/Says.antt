@@ -1,5 +1,5 @@
 -- Whether an instruction of code says that it stands at a site.
-use Rattle.std.specs.Prelude.{◌≡◌, ℕ, ◌==◌, Bool, true, false, is_some, List, Option, Some, None}
+use Rattle.std.specs.Prelude.{ℕ, ◌==◌, Bool, true, false, is_some, Option, Some, None}
 use Rattle.machine.specs.declared.code.CodePlace.{CodePlace}
 use Rattle.machine.specs.declared.code.CodePlace.TheVariants.{Touch, Load, Store, CallInd}
 use Rattle.machine.specs.declared.code.Origin.{Origin}

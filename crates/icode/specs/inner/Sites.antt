@@ -1,5 +1,5 @@
 -- Tables of what is known at a place, and the unit at an address.
-use Rattle.std.specs.Prelude.{◌≡◌, ◌+◌, ℕ, ℤ, cond, List, Option, Some, None, length, slice_get, take, unsigned_abs, IsTrue}
+use Rattle.std.specs.Prelude.{◌≡◌, ◌+◌, ℕ, cond, List, Option, Some, None, length, slice_get, take, unsigned_abs, IsTrue}
 use Rattle.core_ir.specs.declared.role.Role.{Role}
 use Rattle.core_ir.specs.declared.role.Role.TheVariants as role
 use Rattle.core_ir.specs.Flow.{Chain}
@@ -25,7 +25,8 @@ AreBefore locals sites = AreUnitsBefore locals sites.before
 -- ---- units
 
 -- this, and only this, is the unit that an instruction of this role accesses at place k
-pub record IsOnlyUnit (code : List Outline) (locals : List CodeLocal) (k : ℕ) (r : Role) (unit : Option ℕ) : Type 0 where
+pub record IsOnlyUnit (code : List Outline) (locals : List CodeLocal) (k : ℕ) (r : Role) (unit : Option ℕ)
+    : Type 0 where
   pub is : IsUnitOf code locals k (accessed r) unit
   pub one : (u : Option ℕ) → IsUnitOf code locals k (accessed r) u → u ≡ unit
 

@@ -1,5 +1,5 @@
 -- The parts of what is asked of a function of code, in the order in which they are looked at.
-use Rattle.std.specs.Prelude.{◌≡◌, ℕ, All, List, length, map, nat_lt, Some, slice_get}
+use Rattle.std.specs.Prelude.{◌≡◌, ℕ, All, length, map, nat_lt, Some, slice_get}
 use Rattle.core_ir.specs.Order.{IsWellFormed}
 use Rattle.machine.specs.declared.code.Code.{Code}
 use Rattle.machine.specs.declared.code.CodeFunction.{CodeFunction}

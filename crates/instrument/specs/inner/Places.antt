@@ -30,12 +30,20 @@ keeps class t = not (is_regular (class (ty.Pointer t)))
 
 -- what is known of a place with this site
 abbrev pub context : Program → Function → (Ty → Class) → Site → Context
-context program f class site = record { program = program; function = f; class = class; unit = site.unit; origin = site.origin }
+context program f class site = record {
+  program = program;
+  function = f;
+  class = class;
+  unit = site.unit;
+  origin = site.origin;
+}
 
 -- the code of the instruction at a place with this site
 abbrev pub IsDecided : Program → Function → List Class → Site → Instr → CodePlace → Type 0
 IsDecided program f classes site i place =
-    (class : Ty → Class) → AreClassesOf program.structs classes class → place ≡ decided (context program f class site) i
+    (class : Ty → Class)
+    → AreClassesOf program.structs classes class
+    → place ≡ decided (context program f class site) i
 
 -- the code of a variable's address, whatever function gives the classes
 abbrev pub IsGlobal : List Class → ℕ → ℕ → Option GlobalVar → CodePlace → Type 0
@@ -47,13 +55,19 @@ IsLocal classes d v o place =
     (x : Context) → AreClassesOf x.program.structs classes x.class → place ≡ local_code x d v o
 
 -- the code at place k
-pub record IsMade (program : Program) (f : Function) (classes : List Class) (locals : List CodeLocal) (k : ℕ) (i : Instr) (place : CodePlace) : Type 0 where
+pub record IsMade
+    (program : Program) (f : Function) (classes : List Class) (locals : List CodeLocal) (k : ℕ) (i : Instr)
+    (place : CodePlace)
+    : Type 0 where
   pub site : Site
   pub is_site : IsSite (map outline_of f.body) locals k (outline_of i).role site
   pub is : IsDecided program f classes site i place
 
 -- one place for each of the first so many instructions
-pub record AreMade (program : Program) (f : Function) (classes : List Class) (locals : List CodeLocal) (upto : ℕ) (places : List CodePlace) : Type 0 where
+pub record AreMade
+    (program : Program) (f : Function) (classes : List Class) (locals : List CodeLocal) (upto : ℕ)
+    (places : List CodePlace)
+    : Type 0 where
   pub count : length places ≡ upto
   pub each :
       (k : ℕ) (i : Instr) (place : CodePlace)
@@ -72,10 +86,12 @@ pub record StandUpto (f : Function) (upto : ℕ) (locals : List CodeLocal) : Typ
 
 -- the code of a function stands for it
 abbrev pub StandsBy : Program → List Class → Function → CodeFunction → Type 0
-StandsBy program classes f c = (class : Ty → Class) → AreClassesOf program.structs classes class → FunctionStands program class f c
+StandsBy program classes f c =
+    (class : Ty → Class) → AreClassesOf program.structs classes class → FunctionStands program class f c
 
 -- so does that of each of the first so many functions
-pub record AreStanding (program : Program) (classes : List Class) (upto : ℕ) (functions : List CodeFunction) : Type 0 where
+pub record AreStanding (program : Program) (classes : List Class) (upto : ℕ) (functions : List CodeFunction)
+    : Type 0 where
   pub count : length functions ≡ upto
   pub each :
       (n : ℕ) (f : Function) (c : CodeFunction)

@@ -1,4 +1,4 @@
-use Rattle.std.proofs.Common.{◌≡◌, ◌≤◌, ap, arith}
+use Rattle.std.proofs.Common.{◌≡◌, ap, arith}
 use Rattle.machine.specs.ValidCode.{code_local_units}
 use Rattle.icode.proofs.locals.is_framed.Goals as goal
 

@@ -1,4 +1,4 @@
-use Rattle.std.proofs.Common.{◌≡◌, ◌∙◌, ◌+◌, ◌≤◌, false, ap, take, length, arith}
+use Rattle.std.proofs.Common.{◌∙◌, ◌+◌, false, ap, arith}
 use Rattle.std.proofs.lemmas.List.{take_all}
 use Rattle.machine.specs.declared.code.CodeLocal.{CodeLocal}
 use Rattle.machine.specs.Stands.{safe_units}

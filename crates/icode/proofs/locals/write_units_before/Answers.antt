@@ -1,4 +1,4 @@
-use Rattle.std.proofs.Common.{◌≡◌, ◌∙◌, ◌+◌, ◌<◌, inl, inr, ℕ, false, ap, sym, take, length, slice_index, set, arith}
+use Rattle.std.proofs.Common.{◌∙◌, ◌+◌, ◌<◌, inl, inr, false, ap, sym, take, length, slice_index, set, arith}
 use Rattle.std.proofs.lemmas.List.{get_or-set_other, get_or-set_same}
 use Rattle.std.proofs.lemmas.Bool.{cases_eq}
 use Rattle.machine.specs.declared.code.CodeLocal.{CodeLocal}

@@ -1,10 +1,7 @@
-use Rattle.std.proofs.Common.{◌≡◌, ◌∙◌, inl, inr, ℕ, ◌+◌, ◌<◌, List, length, map, Some, slice_get, refl, sym, ap, subst, arith}
+use Rattle.std.proofs.Common.{◌≡◌, ◌∙◌, inl, inr, ◌+◌, length, map, Some, slice_get, refl, sym, ap, subst, arith}
 use Rattle.std.proofs.lemmas.Bool.{cases_eq}
 use Rattle.std.proofs.lemmas.Option.{same_Some, slice_get_read, slice_get_within}
-use Rattle.core_ir.specs.Flow.{Stands}
-use Rattle.core_ir.specs.Order.{IsOrdered, RoleFits}
-use Rattle.machine.specs.declared.code.CodeLocal.{CodeLocal}
-use Rattle.machine.specs.declared.code.CodePlace.{CodePlace}
+use Rattle.core_ir.specs.Order.{IsOrdered}
 use Rattle.machine.specs.Outlines.{outline_of_code, role_of}
 use Rattle.machine.specs.ValidCode.{SaysWhere}
 use Rattle.icode.specs.Sites.{AreLocals, IsSite, KnowsSites}

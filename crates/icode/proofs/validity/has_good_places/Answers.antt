@@ -1,6 +1,4 @@
-use Rattle.std.proofs.Common.{◌≡◌, ◌∙◌, ◌≤◌, IsTrue, length, map, refl, sym, subst, arith}
-use Rattle.std.proofs.lemmas.List.{length-map}
-use Rattle.machine.specs.Outlines.{outline_of_code}
+use Rattle.std.proofs.Common.{◌∙◌, sym, subst, arith}
 use Rattle.machine.specs.ValidCode.{TouchesAreSensitive}
 use Rattle.icode.proofs.SafeUnits.{count_le}
 use Rattle.icode.proofs.FewRegisters.{few_registers}

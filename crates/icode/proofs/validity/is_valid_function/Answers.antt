@@ -1,4 +1,3 @@
-use Rattle.std.proofs.Common.{◌∙◌, sym}
 use Rattle.icode.proofs.validity.is_valid_function.Goals as goal
 
 pub returns-then-has_good_shape : goal.returns-then-has_good_shape

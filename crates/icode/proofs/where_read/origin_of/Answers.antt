@@ -1,4 +1,4 @@
-use Rattle.std.proofs.Common.{◌∙◌, map, sym, subst}
+use Rattle.std.proofs.Common.{map, sym, subst}
 use Rattle.core_ir.specs.Order.{RoleFits}
 use Rattle.icode.specs.inner.Sites.{IsOnlyOrigin}
 use Rattle.icode.proofs.Origins.{only_origin}

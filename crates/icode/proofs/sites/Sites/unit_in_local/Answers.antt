@@ -1,4 +1,4 @@
-use Rattle.std.proofs.Common.{◌≡◌, ◌∙◌, ◌≤◌, ◌<◌, Some, length, slice_get, slice_index, take, sym, ap, subst, arith}
+use Rattle.std.proofs.Common.{◌∙◌, Some, take, sym, ap, arith}
 use Rattle.std.proofs.lemmas.Option.{slice_get_within}
 use Rattle.machine.specs.Stands.{safe_units}
 use Rattle.icode.specs.inner.Sites.{unit_in}

@@ -1,6 +1,5 @@
-use Rattle.std.proofs.Common.{◌≡◌, ◌∙◌, ℕ, ◌≤◌, IfSome, List, map, length, Option, Some, slice_get, ℤ, refl, sym, ap, subst, arith}
+use Rattle.std.proofs.Common.{◌≡◌, ◌∙◌, ℕ, IfSome, map, Some, slice_get, ℤ, sym, ap, subst, arith}
 use Rattle.core_ir.specs.Outline.{Outline}
-use Rattle.machine.specs.declared.code.CodeLocal.{CodeLocal}
 use Rattle.machine.specs.Stands.{IsUnitOf, accessed}
 use Rattle.icode.specs.inner.Sites.{IsOnlyUnit, StaysInside, unit_at}
 use Rattle.icode.proofs.SafeUnits.{count_le}
