@@ -2,6 +2,7 @@
 #![tactic(auto)]
 
 mod code;
+mod code_outline;
 
 pub use code::{
     Code, CodeFunction, CodeFunctionList, CodeLocal, CodeLocalList, CodePlace, CodePlaceList,

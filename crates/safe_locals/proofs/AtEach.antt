@@ -24,6 +24,7 @@ module _ {code : List Outline} (u : ℕ) (marks : List Mark) (tell : (r : ℕ) �
         let s = tells_server (mark.Address v o) t (λ f. cc) in
         record { local = v; such = holds; server = s.0; offset = o; address = t.right s.0 s.1; register = r; serves = s.1; instruction = i; there = there; is = is }
     by_mark (mark.Number c) e holds = absurd (cc)
+    by_mark (mark.Read f) e holds = absurd (cc)
     by_mark mark.Other e holds = absurd (cc)
 
     pub at_exact : IsTrue (is_of locals (mark_at marks r)) ↔ IsAt code (HasYes locals) u

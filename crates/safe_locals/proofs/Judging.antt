@@ -47,6 +47,7 @@ module _ {code : List Outline} (u : ℕ) (marks : List Mark) (tell : (r : ℕ) �
       let t = subst (Tells code u i) e (tell i) in
       let j = tells_server (mark.Number c) t (λ f. cc) in by_index p i n j.0 c has j.1 (t.right j.0 j.1)
   number_is p i n (mark.Address v o) e is has = absurd (cc)
+  number_is p i n (mark.Read f) e is has = absurd (cc)
   number_is p i n mark.Other e is has = absurd (cc)
 
   first_harmless : (r : Role) (o : ℤ) (units : ℕ) → HasRole code 0 u r → is_harmless_first marks r o units ≡ true → IsHarmless code u 0 o units

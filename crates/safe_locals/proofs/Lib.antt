@@ -1,7 +1,9 @@
 mod Serving
 mod Addresses
+mod Chains
 mod Products
 mod MarksTell
+mod MarksAnswer
 mod Judging
 mod WholeFunctions
 mod AtEach

@@ -1,3 +1,4 @@
+pub mod inner
 pub mod Safe
 pub mod AtLocals
-pub mod inner
+pub mod Known

@@ -8,7 +8,7 @@ ghost use Rattle.safe_locals.specs.inner.Marks as spec;
 ghost use Rattle.safe_locals.specs.inner.Marks.{AreMarks};
 
 use crate::mark::Mark;
-use crate::marks::{mark_at, no_marks, pass};
+use crate::marks::{Marks, mark_at};
 use core_ir::HasOutline;
 use sqlite_items::Items;
 use std::alloc::{AllocError, Global};
@@ -53,19 +53,18 @@ fn is_at<I: HasOutline>(
 pub fn at_locals<I: HasOutline>(
     alloc: Global,
     code: &[I],
-    registers: u32,
     locals: &[bool],
 ) -> Result<Items<bool>, AllocError>
     requires few { length code.now ≤ 65536 }
     requires defined { (u : ℕ) (i : Outline) → Stands (map I.outline code.now) 0 u i
-        → IfSome i.defined (λ d. d < registers) }
+        → IfSome i.defined (λ d. d < 1024) }
     ensures { IfOk result (λ at. AreAt (map I.outline code.now) locals.now at) }
 {
-    let mut marks = no_marks(alloc, registers)?;
+    let mut marks = Marks::new();
     let mut at = Items::new(alloc);
     for (place, instr) in code.iter().enumerate() {
-        at.push(is_at(locals, marks.as_slice(), code, place, instr))?;
-        pass(&mut marks, code, place, instr);
+        at.push(is_at(locals, &marks.marks, code, place, instr))?;
+        marks.pass(code, place, instr);
     }
     Ok(at)
 }

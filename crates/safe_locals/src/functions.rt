@@ -32,7 +32,7 @@ fn safe_of(alloc: Global, program: &Program, function: &Function) -> Result<Item
 {
     let units = units_of(alloc, function.locals.as_slice())?;
     let body = function.body.as_slice();
-    let safe = safe_in(alloc, body, function.registers, units.as_slice())?;
+    let safe = safe_in(alloc, body, units.as_slice())?;
     Ok(safe)
 }
 
@@ -79,7 +79,7 @@ fn at_safe_of(
     ensures { IfOk result (λ at. AreAtSafe function.now at) }
 {
     let body = function.body.as_slice();
-    let at = at_locals(alloc, body, function.registers, safe)?;
+    let at = at_locals(alloc, body, safe)?;
     Ok(at)
 }
 

@@ -1,14 +1,30 @@
 //! The marks of registers.
 
-ghost use Rattle.std.specs.Prelude.{◌≡◌, ◌+◌, ◌<◌, ◌≤◌, ◌^◌, ℕ, IfOk, IfSome, length, map, unsigned_abs};
-ghost use Rattle.core_ir.specs.Flow.{Stands};
+ghost use Rattle.std.specs.Prelude.{◌≡◌, ◌↔◌, ◌+◌, ◌<◌, ◌≤◌, ◌^◌, ℕ, ℤ, IfSome, List, Some, length, map, unsigned_abs};
+ghost use Rattle.core_ir.specs.Flow.{Chain, Stands};
+ghost use Rattle.core_ir.specs.Outline.{Outline};
+ghost use Rattle.safe_locals.specs.Known.{HasAddress, IsAddressOf, Knows};
 ghost use Rattle.safe_locals.specs.inner.Marks as spec;
 ghost use Rattle.safe_locals.specs.inner.Marks.{AreMarks, IsWithin, most_offset};
 
 use crate::mark::Mark;
 use core_ir::{HasOutline, Role};
-use sqlite_items::Items;
-use std::alloc::{AllocError, Global};
+
+/// As many as a function may have.
+pub(crate) const MOST_REGISTERS: usize = 1_024;
+
+/// The address of a frame local and so many units.
+#[derive(Clone, Copy, Debug, PartialEq, Eq)]
+pub struct LocalAddress {
+    pub local: u32,
+    pub offset: i128,
+}
+
+/// What is known of each register at a place of a body. It takes some 50 kilobytes.
+#[derive(Drop)]
+pub struct Marks {
+    pub(crate) marks: [Mark; MOST_REGISTERS],
+}
 
 /// The mark of a register.
 pub(crate) fn mark_at(marks: &[Mark], register: u32) -> Mark
@@ -50,11 +66,22 @@ fn moved_by(mark: Mark, number: Mark, units: u32, most: u64) -> Mark
     }
 }
 
+/// The mark of what was converted.
+fn converted(mark: Mark, most: u64) -> Mark
+    ensures value { result ≡ spec.converted mark }
+    ensures within { IsWithin (most_offset most) result }
+{
+    match mark {
+        Mark::Read(first) => Mark::Read(first),
+        _ => Mark::Other,
+    }
+}
+
 /// The mark of what an instruction of this role defines at a place.
 pub(crate) fn made(marks: &[Mark], role: Role, place: u64) -> Mark
     requires within { (r : ℕ) → IsWithin (most_offset place) (spec.mark_at marks.now r) }
     requires few { place < 65536 }
-    ensures value { result ≡ spec.made marks.now role }
+    ensures value { result ≡ spec.made marks.now place role }
     ensures within { IsWithin (most_offset (place + 1)) result }
 {
     match role {
@@ -65,33 +92,54 @@ pub(crate) fn made(marks: &[Mark], role: Role, place: u64) -> Mark
         },
         Role::Shifted { p, k } => moved(mark_at(marks, p), i128::from(k), place),
         Role::Indexed { p, i, s } => moved_by(mark_at(marks, p), mark_at(marks, i), s, place),
+        Role::Load { .. } | Role::Slot { .. } => Mark::Read(place as u32),
+        Role::Cast { a } => converted(mark_at(marks, a), place + 1),
         _ => Mark::Other,
     }
 }
 
-/// No register has been defined.
-pub(crate) fn no_marks(alloc: Global, registers: u32) -> Result<Items<Mark>, AllocError>
-    ensures none { IfOk result (λ marks. (r : ℕ) → spec.mark_at marks r ≡ Mark.Other) }
-    ensures many { IfOk result (λ marks. length marks ≡ registers) }
-{
-    let mut marks = Items::new(alloc);
-    for _ in 0..registers {
-        marks.push(Mark::Other)?;
+impl Marks {
+    /// Nothing is known before the first place.
+    pub fn new() -> Marks
+        ensures { (code : List Outline) → Knows code 0 result }
+    {
+        Marks {
+            marks: [Mark::Other; MOST_REGISTERS],
+        }
     }
-    Ok(marks)
-}
 
-/// Goes past the instruction at a place.
-pub(crate) fn pass<I: HasOutline>(marks: &mut Items<Mark>, code: &[I], place: usize, instr: &I)
-    requires few { place < 65536 }
-    requires marks { AreMarks (map I.outline code.now) place marks.old }
-    requires here { Stands (map I.outline code.now) 0 place (I.outline instr.now) }
-    requires defined { IfSome (I.outline instr.now).defined (λ d. d < length marks.old) }
-    ensures marks { AreMarks (map I.outline code.now) (place + 1) marks.new }
-    ensures many { length marks.new ≡ length marks.old }
-{
-    if let Some(register) = instr.defined() {
-        let mark = made(marks.as_slice(), instr.role(), place as u64);
-        marks.set(register as usize, mark);
+    /// The address of a local that serves a register.
+    pub fn address(&self, register: u32) -> Option<LocalAddress>
+        ensures { (code : List Outline) (u v : ℕ) (o : ℤ) → Knows code u self.now
+            → HasAddress code u register v o ↔ IsAddressOf result v o }
+    {
+        match mark_at(&self.marks, register) {
+            Mark::Address { local, offset } => Some(LocalAddress { local, offset }),
+            _ => None,
+        }
+    }
+
+    /// The first place of the chain that gives a register.
+    pub fn first(&self, register: u32) -> Option<u32>
+        ensures { (code : List Outline) (u k : ℕ) → Knows code u self.now
+            → Chain code 0 u register k ↔ (result ≡ Some k) }
+    {
+        match mark_at(&self.marks, register) {
+            Mark::Read(first) => Some(first),
+            _ => None,
+        }
+    }
+
+    /// Goes past the instruction at a place.
+    pub fn pass<I: HasOutline>(&mut self, code: &[I], place: usize, instr: &I)
+        requires few { place < 65536 }
+        requires known { Knows (map I.outline code.now) place self.old }
+        requires here { Stands (map I.outline code.now) 0 place (I.outline instr.now) }
+        requires defined { IfSome (I.outline instr.now).defined (λ d. d < 1024) }
+        ensures { Knows (map I.outline code.now) (place + 1) self.new }
+    {
+        if let Some(register) = instr.defined() {
+            self.marks[register as usize] = made(&self.marks, instr.role(), place as u64);
+        }
     }
 }

@@ -8,7 +8,6 @@ ghost use Rattle.safe_locals.specs.inner.Marks.{AreJudged, AreMarks};
 use crate::mark::Mark;
 use crate::marks::mark_at;
 use core_ir::{HasOutline, Role};
-use sqlite_items::Items;
 
 /// Whether an offset is inside of so many units.
 fn is_inside(offset: i128, units: u32) -> bool
@@ -46,7 +45,7 @@ fn is_harmless(marks: &[Mark], role: Role, operand: usize, offset: i128, units: 
 
 /// Looks at an operand of the instruction at a place.
 fn judge_operand<I: HasOutline>(
-    safe: &mut Items<bool>,
+    safe: &mut [bool],
     units: &[u32],
     marks: &[Mark],
     code: &[I],
@@ -63,14 +62,14 @@ fn judge_operand<I: HasOutline>(
     if let Mark::Address { local, offset } = mark_at(marks, instr.operand(operand)) {
         let local = local as usize;
         if local < units.len() && !is_harmless(marks, instr.role(), operand, offset, units[local]) {
-            safe.set(local, false);
+            safe[local] = false;
         }
     }
 }
 
 /// Looks at each operand of the instruction at a place.
 pub(crate) fn judge<I: HasOutline>(
-    safe: &mut Items<bool>,
+    safe: &mut [bool],
     units: &[u32],
     marks: &[Mark],
     code: &[I],

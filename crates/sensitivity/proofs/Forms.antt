@@ -112,6 +112,22 @@ pub open_array : (defs : List StructDef) (t : Ty) (n : ℕ) → is_open (has_no_
 unfolding is_open roll-Ty denote.Hole.Carrier.roll
 open_array defs t n = fold-roll-Ty Bool Bool (open_step (has_no_body defs)) (λ f. false) (Ty-F.Array t n)
 
+pub code_pointer : (t : Ty) → is_code (ty.Pointer t) ≡ false
+unfolding is_code roll-Ty denote.Hole.Carrier.roll
+code_pointer t = fold-roll-Ty Bool Bool code_step (λ f. false) (Ty-F.Pointer t)
+
+pub open_pointer : (defs : List StructDef) (t : Ty) → is_open (has_no_body defs) (ty.Pointer t) ≡ false
+unfolding is_open roll-Ty denote.Hole.Carrier.roll
+open_pointer defs t = fold-roll-Ty Bool Bool (open_step (has_no_body defs)) (λ f. false) (Ty-F.Pointer t)
+
+pointer_is_at : (y : Outer) (u : Ty) → target_at y ≡ Some u → y ≡ Ty-F.Pointer u
+pointer_is_at (Ty-F.Pointer t) u is = ap Ty-F.Pointer (same_Some t u is)
+pointer_is_at _ u is = absurd (cc)
+
+pub pointer_is : (t u : Ty) → target_of t ≡ Some u → t ≡ ty.Pointer u
+unfolding target_of
+pointer_is t u is = sym (roll-out-Ty t) ∙ ap roll-Ty (pointer_is_at (out-Ty t) u is ∙ sym (ty.outs-Pointer u)) ∙ roll-out-Ty (ty.Pointer u)
+
 pub no_code_struct : (s : ℕ) → is_code_pointer (ty.Pointer (ty.Struct s)) ≡ false
 no_code_struct s = code_of (ty.Pointer (ty.Struct s)) (ty.Struct s) (target_of_pointer (ty.Struct s)) ∙ code_struct s
 

@@ -4,3 +4,4 @@ mod Marking
 mod Complete
 mod SearchSteps
 mod ClassLaws
+mod EachHasClass

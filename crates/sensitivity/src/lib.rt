@@ -11,4 +11,7 @@ mod theorems;
 
 pub use class::Class;
 pub use class_table::{ClassTable, classes};
-pub use theorems::{arrays_are_as_their_elements, classes_are_unique, pointers_hold};
+pub use theorems::{
+    arrays_are_as_their_elements, classes_are_unique, holders_are_sensitive, pointers_hold,
+    types_have_classes,
+};

@@ -3,7 +3,7 @@ use Rattle.std.specs.Prelude.{◌≡◌, ◌⊎◌, ◌<◌, ◌≤◌, ◌*◌,
 use Rattle.core_ir.specs.Outline.{Outline}
 use Rattle.core_ir.specs.declared.role.Role.{Role}
 use Rattle.core_ir.specs.declared.role.Role.TheVariants as role
-use Rattle.core_ir.specs.Flow.{HasRole, Serves, Stands}
+use Rattle.core_ir.specs.Flow.{Chain, HasRole, Serves, Stands}
 use Rattle.core_ir.specs.SafeLocal.{IsAccessed, IsAddress, IsInside, IsMoved}
 use Rattle.safe_locals.specs.AtLocals.{HasYes, IsAt}
 use Rattle.safe_locals.specs.declared.mark.Mark.{Mark}
@@ -22,24 +22,51 @@ abbrev pub moved_by : Mark → Mark → ℕ → Mark
 moved_by p (mark.Number c) n = moved p (c *ℤ pos n)
 moved_by p _ n = mark.Other
 
--- the mark of what an instruction of this role defines
-abbrev pub made : List Mark → Role → Mark
-made marks (role.Const c) = mark.Number c
-made marks (role.Local v) = mark.Address v (pos 0)
-made marks (role.Shifted p n) = moved (mark_at marks p) (pos n)
-made marks (role.Indexed p i n) = moved_by (mark_at marks p) (mark_at marks i) n
-made marks _ = mark.Other
+abbrev pub converted : Mark → Mark
+converted (mark.Read first) = mark.Read first
+converted _ = mark.Other
+
+-- the mark of what an instruction of this role defines at place k
+abbrev pub made : List Mark → ℕ → Role → Mark
+made marks k (role.Const c) = mark.Number c
+made marks k (role.Local v) = mark.Address v (pos 0)
+made marks k (role.Shifted p n) = moved (mark_at marks p) (pos n)
+made marks k (role.Indexed p i n) = moved_by (mark_at marks p) (mark_at marks i) n
+made marks k (role.Load p) = mark.Read k
+made marks k (role.Slot s) = mark.Read k
+made marks k (role.Cast a) = converted (mark_at marks a)
+made marks k _ = mark.Other
+
+-- a chain that begins at this place ends with an instruction of this role at place k
+abbrev pub EndsChain : List Outline → ℕ → Role → ℕ → Type 0
+EndsChain code k (role.Load p) first = first ≡ k
+EndsChain code k (role.Slot s) first = first ≡ k
+EndsChain code k (role.Cast a) first = Chain code 0 k a first
+EndsChain code k _ first = ⊥
+
+-- the instruction at place k ends a chain that begins at this place
+pub record Reads (code : List Outline) (k first : ℕ) : Type 0 where
+  pub by : Role
+  pub has : HasRole code 0 k by
+  pub ends : EndsChain code k by first
+
+-- it is no number, no address of a local, and the end of no chain
+pub record MakesOther (code : List Outline) (k : ℕ) : Type 0 where
+  pub no_number : (c : ℤ) → HasRole code 0 k (role.Const c) → ⊥
+  pub no_address : (v : ℕ) (o : ℤ) → IsAddress code k v o → ⊥
+  pub no_chain : (first : ℕ) → Reads code k first → ⊥
 
 -- the instruction at place k makes what the mark says
 abbrev pub Makes : List Outline → ℕ → Mark → Type 0
 Makes code k (mark.Number c) = HasRole code 0 k (role.Const c)
 Makes code k (mark.Address v o) = IsAddress code k v o
-Makes code k mark.Other = ((c : ℤ) → HasRole code 0 k (role.Const c) → ⊥) × ((v : ℕ) (o : ℤ) → IsAddress code k v o → ⊥)
+Makes code k (mark.Read first) = Reads code k first
+Makes code k mark.Other = MakesOther code k
 
 -- what serves the register at place u makes what the mark says
 pub record Tells (code : List Outline) (u r : ℕ) (m : Mark) : Type 0 where
   pub right : (s : ℕ) → Serves code 0 s u r → Makes code s m
-  -- only what serves makes an address or a number
+  -- only what serves makes an address, a number or a chain
   pub served : (m ≡ mark.Other) ⊎ ((s : ℕ) × Serves code 0 s u r)
 
 -- so many units at most in either direction

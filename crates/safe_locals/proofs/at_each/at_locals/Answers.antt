@@ -2,7 +2,6 @@ use Rattle.std.proofs.Common.{◌∙◌, ◌<◌, IfSome, map, sym, subst, arith
 use Rattle.std.proofs.lemmas.List.{length-map}
 use Rattle.safe_locals.specs.inner.Marks.{AreAtUntil}
 use Rattle.safe_locals.proofs.AtEach.{at_all, at_first, at_pushed}
-use Rattle.safe_locals.proofs.MarksTell.{marks_first}
 use Rattle.safe_locals.proofs.Serving.{here}
 use Rattle.safe_locals.proofs.at_each.at_locals.Goals as goal
 
@@ -10,8 +9,7 @@ pub loop-place-init : goal.loop-place-init
 loop-place-init g c =
     let code = map g.I.HasOutline.outline c.args.code.now in
     record {
-      marks = marks_first code c.in_ok-marks.marks c.in_ok-marks.ensures.none;
-      many = c.in_ok-marks.ensures.many;
+      marks = c.new-marks.ensures code;
       answers = subst (AreAtUntil code c.args.locals.now 0) (sym c.new-at.ensures) (at_first code c.args.locals.now);
     }
 
@@ -23,13 +21,11 @@ pass-requires-clause-here g c = here g.I.HasOutline.outline c.args.code.now c.lo
 
 pub pass-requires-clause-defined : goal.pass-requires-clause-defined
 pass-requires-clause-defined g c =
-    subst (λ n. IfSome (g.I.HasOutline.outline c.index-code-place.result).defined (λ d. d < n)) (sym c.loop-place.invariant.many)
-    (c.requires.defined c.loop-place.place _ (here g.I.HasOutline.outline c.args.code.now c.loop-place.place c.index-code-place.result c.loop-place-test.true c.index-code-place.is))
+    c.requires.defined c.loop-place.place _ (here g.I.HasOutline.outline c.args.code.now c.loop-place.place c.index-code-place.result c.loop-place-test.true c.index-code-place.is)
 
 pub loop-place-preserved : goal.loop-place-preserved
 loop-place-preserved g c = record {
-  marks = c.pass.ensures.marks;
-  many = c.pass.ensures.many ∙ c.loop-place.invariant.many;
+  marks = c.pass.ensures;
   answers = at_pushed (map g.I.HasOutline.outline c.args.code.now) c.args.locals.now c.loop-place.place c.loop-place.at c.push.new.self c.is_at.result c.in_ok-push.ensures.ok c.loop-place.invariant.answers c.is_at.ensures;
 }
 

@@ -22,8 +22,7 @@ returns-then-not-is_harmless g c =
     c.is_harmless.ensures ∙ ap (λ o. is_harmless marks c.role.result c.args.operand o n) (to_z-of_z w128 c.in-Address.offset fits)
     ∙ ap (λ r. is_harmless marks r c.args.operand c.in-Address.offset n) c.role.ensures in
     let harm : is_harmless marks i.role c.args.operand c.in-Address.offset n ≡ false = sym value ∙ c.if-not-is_harmless.true in
-    subst (AreJudged code units c.args.place (c.args.operand + 1)) (sym c.set.ensures)
-    (judged_against c.args.place marks c.requires.marks.tell i c.requires.here c.args.operand c.operand.result c.operand.ensures units c.args.safe.now c.requires.judged c.in-Address.local c.in-Address.offset n at e harm)
+    judged_against c.args.place marks c.requires.marks.tell i c.requires.here c.args.operand c.operand.result c.operand.ensures units c.args.safe.now c.requires.judged c.in-Address.local c.in-Address.offset n at e harm
 
 pub returns-else-local-units : goal.returns-else-local-units
 returns-else-local-units g c =

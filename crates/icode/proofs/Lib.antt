@@ -1,0 +1,14 @@
+mod Lists
+mod SameOutlines
+mod LocalsStand
+mod RangesStand
+mod SensitiveTouches
+mod PlacesSay
+mod StandingCode
+mod SafeUnits
+mod Units
+mod Origins
+mod SiteIsSaid
+mod StandingLocals
+mod MarksAreSafe
+mod FewRegisters

@@ -1,0 +1,4 @@
+pub mod Locals
+pub mod Sites
+pub mod Says
+pub mod Valid

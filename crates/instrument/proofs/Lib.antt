@@ -1,0 +1,3 @@
+mod KindsOfTypes
+mod Made
+mod Whole
