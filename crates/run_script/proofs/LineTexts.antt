@@ -45,7 +45,7 @@ module _ (laws : FieldLaws) where
 
   pub line_is : (line : Line) → IsLine line → line_in (line_text line) ≡ Some line
   unfolding line_in fields_in form_in datum_in
-  line_is Empty is = ap answer (rw laws.end_is_read refl)
+  line_is Empty is = let ends : fields_in ([] ∷ []) ≡ Some (Empty, []) = rw laws.end_is_read refl in ap answer ends
   line_is (Comment text) is = refl
   line_is (Turns thread turns) is =
       ap (λ fs. answer (fields_in fs)) (laws.found (codes "t") (decimal thread ∷ decimal turns ∷ []) refl (laws.plain thread (omega (arith, is.0)), (laws.plain turns (omega (arith, is.1)), tt)))

@@ -51,7 +51,7 @@ impl<'a> Line<'a> {
 
     /// Whether it may stand where there are inputs alone.
     pub(super) fn is_input(self) -> bool
-        requires { IsLine (line_of self.entry) }
+        requires { IsLine (line_of self) }
         ensures { IsTrue result ↔ IsInputLine (line_of self.entry) }
     {
         match self {

@@ -6,7 +6,7 @@ use Rattle.run_script.proofs.LinesAreRead.{inputs_none, inputs_more, inputs_bad,
 use Rattle.run_script.proofs.read.collect_inputs.Goals as goal
 
 pub loop-rest-init : goal.loop-rest-init
-loop-rest-init c = rw c.new.ensures (inputs_none c.args.bytes.now)
+loop-rest-init c = rw c.new-inputs.ensures (inputs_none c.args.bytes.now)
 
 pub returns-in_default-clause-refused : goal.returns-in_default-clause-refused
 returns-in_default-clause-refused c =

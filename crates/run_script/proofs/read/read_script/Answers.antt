@@ -12,8 +12,8 @@ returns-in_err-lines-clause-exact c answer =
     given (one_line c.field_laws.ensures) c.args.bytes.now c.from_residual.result answer (IfOk-from_err _ (λ s. IsScript c.args.bytes.now s.inputs s.events) c.from_residual.ensures.0) (search rules)
 
 -- too many turns
-pub returns-then-lines-gt-from-clause-exact : goal.returns-then-lines-gt-from-clause-exact
-returns-then-lines-gt-from-clause-exact c answer = given (one_line c.field_laws.ensures) c.args.bytes.now (Err refusal.TooLong) answer tt (search rules)
+pub returns-then-lines-from-clause-exact : goal.returns-then-lines-from-clause-exact
+returns-then-lines-from-clause-exact c answer = given (one_line c.field_laws.ensures) c.args.bytes.now (Err refusal.TooLong) answer tt (search rules)
 
 -- the events
 pub returns-clause-exact : goal.returns-clause-exact

@@ -1,0 +1,3 @@
+pub mod ItemTexts
+pub mod FullLines
+pub mod LinesAreRead
