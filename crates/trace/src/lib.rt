@@ -3,6 +3,8 @@
 
 mod field;
 mod record;
+mod records;
 mod text;
 
+pub use records::Trace;
 pub use text::trace_text;

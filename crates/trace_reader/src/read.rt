@@ -21,11 +21,11 @@ pub struct Lines {
     pub records: Records,
 }
 
-/// Whether a record behind this one is one more of its steps.
-fn joins(last: &Record, record: &Record) -> bool
-    ensures { result ≡ join last.now record.now }
+/// Whether the next record is steps of the thread whose steps the last one is.
+fn joins(last: &Record, next: &Record) -> bool
+    ensures { result ≡ join last.now next.now }
 {
-    match (last, record) {
+    match (last, next) {
         (Record::Steps { t, .. }, Record::Steps { t: u, .. }) => t == u,
         _ => false,
     }
