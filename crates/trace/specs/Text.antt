@@ -1,5 +1,5 @@
 -- The text of records: one line each, ended by LF, its fields split by one space.
-use Rattle.std.specs.Prelude.{ℕ, ◌++◌, ◌||◌, Bool, true, false, List, [], ◌∷◌, Option, Some, None, codes, decimal, filter}
+use Rattle.std.specs.Prelude.{ℕ, ℤ, ◌++◌, ◌||◌, Bool, true, false, List, [], ◌∷◌, Option, Some, None, codes, decimal, filter}
 use Rattle.std.specs.List.{flat_map}
 use Rattle.std.specs.Fmt.{signed_decimal}
 use Rattle.meaning.specs.declared.value.Entry.{Entry}
@@ -119,3 +119,12 @@ is_brief (Wrote a v) = true
 -- the text of records, in full or in brief
 abbrev pub trace_text : Bool → List Record → List ℕ
 trace_text full records = flat_map record_text (filter (λ r. full || is_brief r) records)
+
+-- the line of an input
+abbrev pub input_text : ℤ → List ℕ
+input_text v = line (codes "in") (signed_decimal v ∷ [])
+
+-- the text of a run's inputs and records: the full text begins with the inputs, the brief one has none
+abbrev pub run_text : Bool → List ℤ → List Record → List ℕ
+run_text true inputs records = flat_map input_text inputs ++ trace_text true records
+run_text false inputs records = trace_text false records

@@ -1,7 +1,7 @@
 //! The lines of records.
 ghost use Rattle.std.specs.Prelude.{◌≡◌, ◌++◌, ◌∷◌, [], decimal, slice_index, OnOk};
 ghost use Rattle.std.specs.Fmt.{signed_decimal};
-ghost use Rattle.trace.specs.Text.{line, entry_fields, did_fields, note_fields, check_field, stop_field, flag_field, option_field, record_text};
+ghost use Rattle.trace.specs.Text.{line, entry_fields, did_fields, note_fields, check_field, stop_field, flag_field, option_field, input_text, record_text};
 ghost use Rattle.trace.specs.inner.Field.{field_text};
 
 use super::field::{Field, push_fields, push_line};
@@ -279,6 +279,16 @@ fn push_write(text: &mut Vec<u8>, a: u32, v: i64) -> Result<(), AllocError>
 {
     text.push(b'w')?;
     push_fields(text, &[Field::Count(u64::from(a)), Field::Number(v)])?;
+    text.push(b'\n')?;
+    Ok(())
+}
+
+/// Appends the line of an input.
+pub(crate) fn push_input(text: &mut Vec<u8>, v: i64) -> Result<(), AllocError>
+    ensures { OnOk result (text.new.items ≡ text.old.items ++ input_text v) }
+{
+    text.extend_from_slice(b"in")?;
+    push_fields(text, &[Field::Number(v)])?;
     text.push(b'\n')?;
     Ok(())
 }

@@ -13,9 +13,9 @@ use std::marker::Model;
 /// The inputs of a run, its records in order, and room for further ones.
 #[derive(Drop)]
 pub struct Trace {
-    alloc: Global,
-    inputs: Inputs,
-    records: Vec<Record>,
+    pub(crate) alloc: Global,
+    pub(crate) inputs: Inputs,
+    pub(crate) records: Vec<Record>,
 }
 
 impl Model for Trace {
@@ -83,7 +83,7 @@ impl Trace {
         ensures records { (self.new).records ≡ added (self.old).records item }
         ensures spare { (self.old).spare ≤ (self.new).spare + 1 }
     {
-        match joined_last(&self.records, item) {
+        match joined_last(self.records.as_slice(), item) {
             Some(both) => {
                 let last = self.records.len() - 1;
                 self.records[last] = both;
@@ -117,13 +117,13 @@ impl Trace {
 }
 
 /// The last record and this one as one record, where they are steps of the same thread.
-fn joined_last(records: &Vec<Record>, entry: Record) -> Option<Record>
+fn joined_last(records: &[Record], entry: Record) -> Option<Record>
     ensures { MatchOption result
-        (added (records.now).items entry ≡ (records.now).items ++ entry ∷ [])
-        (λ both. (0 < length (records.now).items)
-            × (added (records.now).items entry ≡ slice_set (records.now).items (length (records.now).items - 1) both)) }
+        (added records.now entry ≡ records.now ++ entry ∷ [])
+        (λ both. (0 < length records.now)
+            × (added records.now entry ≡ slice_set records.now (length records.now - 1) both)) }
 {
-    let last = records.as_slice().last()?;
+    let last = records.last()?;
     joined(*last, entry)
 }
 

@@ -1,8 +1,10 @@
 //! The text of a trace.
-ghost use Rattle.std.specs.Prelude.{◌≡◌, IfOk};
-ghost use Rattle.trace.specs.Text.{is_brief, trace_text};
+ghost use Rattle.std.specs.Prelude.{◌≡◌, ◌++◌, IfOk, OnOk};
+ghost use Rattle.std.specs.List.{flat_map};
+ghost use Rattle.trace.specs.Text.{input_text, is_brief, record_text, run_text, trace_text};
 
-use super::record::push_record;
+use super::record::{push_input, push_record};
+use super::records::Trace as RunTrace;
 use meaning::small::{Record, Trace};
 use meaning::{Action, Note};
 use std::alloc::{AllocError, Global};
@@ -21,6 +23,28 @@ fn is_brief(entry: &Record) -> bool
     }
 }
 
+/// Appends the lines of records, of all or of those that the brief text shows.
+fn push_records(text: &mut Vec<u8>, records: &[Record], full: bool) -> Result<(), AllocError>
+    ensures { OnOk result (text.new.items ≡ text.old.items ++ trace_text full records.now) }
+{
+    for entry in records {
+        if full || is_brief(entry) {
+            push_record(text, *entry)?;
+        }
+    }
+    Ok(())
+}
+
+/// Appends the lines of inputs.
+fn push_inputs(text: &mut Vec<u8>, inputs: &[i64]) -> Result<(), AllocError>
+    ensures { OnOk result (text.new.items ≡ text.old.items ++ flat_map input_text inputs.now) }
+{
+    for v in inputs {
+        push_input(text, *v)?;
+    }
+    Ok(())
+}
+
 /// The text of a trace, in full or in brief.
 ///
 /// # Errors
@@ -30,10 +54,24 @@ pub fn trace_text(alloc: Global, trace: &Trace, full: bool) -> Result<Vec<u8>, A
     ensures { IfOk result (λ text. text.items ≡ trace_text full trace.now) }
 {
     let mut text = Vec::new(alloc);
-    for entry in trace.as_slice() {
-        if full || is_brief(entry) {
-            push_record(&mut text, *entry)?;
-        }
-    }
+    push_records(&mut text, trace.as_slice(), full)?;
     Ok(text)
+}
+
+impl RunTrace {
+    /// The text of the trace, in full or in brief. The full text begins with the inputs.
+    ///
+    /// # Errors
+    ///
+    /// `AllocError`, where no memory is left.
+    pub fn text(&self, full: bool) -> Result<Vec<u8>, AllocError>
+        ensures { IfOk result (λ text. text.items ≡ run_text full self.now.inputs self.now.records) }
+    {
+        let mut text = Vec::new(self.alloc);
+        if full {
+            push_inputs(&mut text, self.inputs.as_slice())?;
+        }
+        push_records(&mut text, self.records.as_slice(), full)?;
+        Ok(text)
+    }
 }

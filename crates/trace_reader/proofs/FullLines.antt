@@ -1,6 +1,6 @@
 -- The lines of full texts: the last one and those before it, and that a text has one trace or one first bad line.
-use Rattle.std.proofs.Common.{◌≡◌, ◌≢◌, ℕ, zero, suc, ℤ, ◌+◌, ◌<◌, ◌≤◌, false, List, [], ◌∷◌, ◌++◌, length, map, get_or, refl, sym, ap, subst, ◌∙◌, arith, inl, inr, ◌⊎◌, ⊎_elim, append_assoc}
-use Rattle.std.specs.List.{All, AllByRecursion, concat}
+use Rattle.std.proofs.Common.{◌≡◌, ◌≢◌, ℕ, zero, suc, ℤ, ◌+◌, ◌<◌, ◌≤◌, true, false, List, [], ◌∷◌, ◌++◌, length, map, get_or, refl, sym, ap, subst, ◌∙◌, arith, inl, inr, ◌⊎◌, ⊎_elim, append_assoc}
+use Rattle.std.specs.List.{All, AllByRecursion, concat, flat_map}
 use Rattle.std.proofs.lemmas.Bool.{cases_order, cases_eq}
 use Rattle.std.proofs.lemmas.List.{append-nil, length-append, get_or_append_left, get_or_push, length_push, map_push, map-append, same_from_push, nil_from_length}
 use Rattle.std.proofs.lemmas.List.Elements.{All-nil, All-push, recursion_from_All}
@@ -8,10 +8,10 @@ use Rattle.meaning.specs.declared.small.record.Record.{Record}
 use Rattle.job.specs.Lines.{lines_of}
 use Rattle.fields.specs.Numbers.{IsWord}
 use Rattle.fields.specs.Theorems.{FieldLaws}
-use Rattle.trace.specs.Text.{record_text}
+use Rattle.trace.specs.Text.{input_text, record_text, run_text, trace_text}
 use Rattle.trace_reader.specs.declared.item.Item.{Item}
 use Rattle.trace_reader.specs.declared.item.Item.TheVariants.{Given, Recorded}
-use Rattle.trace_reader.specs.FullText.{input_text, full_lines, full_text, IsRecord, join, IsTrace, HasFullText, AreFullLines, IsFirstBad}
+use Rattle.trace_reader.specs.FullText.{full_lines, IsRecord, join, IsTrace, HasFullText, AreFullLines, IsFirstBad}
 use Rattle.trace_reader.specs.inner.Items.{item_text, IsItem, MayFollow}
 use Rattle.trace_reader.proofs.ItemTexts.{line_comes, one_item}
 
@@ -84,6 +84,16 @@ pub lines_recorded : (inputs : List ℤ) (records : List Record) (r : Record) �
 lines_recorded inputs records r =
     ap (λ t. map input_text inputs ++ t) (map_push record_text records r) ∙ sym (append_assoc (map input_text inputs) (map record_text records) (record_text r ∷ []))
 
+records_text : (records : List Record) → trace_text true records ≡ concat (map record_text records)
+records_text [] = refl
+records_text (r ∷ rs) = ap (λ t. record_text r ++ t) (records_text rs)
+
+-- a full text is its lines
+pub text_is_lines : (inputs : List ℤ) (records : List Record) → run_text true inputs records ≡ concat (full_lines inputs records)
+text_is_lines [] records = records_text records
+text_is_lines (v ∷ vs) records =
+    append_assoc (input_text v) (flat_map input_text vs) (trace_text true records) ∙ ap (λ t. input_text v ++ t) (text_is_lines vs records)
+
 -- the lines before the last one, and what that is
 pub record Last (before : List (List ℕ)) (bad : List ℕ) : Type 0 where
   pub inputs : List ℤ
@@ -133,8 +143,8 @@ last_recorded before bad inputs records r trace lines =
 pub last_line : (before : List (List ℕ)) (bad : List ℕ) → AreFullLines (before ++ bad ∷ []) → Last before bad
 last_line before bad full =
     ⊎_elim
-    (λ none. last_given before bad full.inputs (subst (IsTrace full.inputs) none full.trace) (full.lines ∙ ap (full_lines full.inputs) none))
-    (λ split. last_recorded before bad full.inputs split.0 split.1 (subst (IsTrace full.inputs) split.2 full.trace) (full.lines ∙ ap (full_lines full.inputs) split.2))
+    (λ none. last_given before bad full.inputs (subst (IsTrace full.inputs) none full.trace) (full.lines_are ∙ ap (full_lines full.inputs) none))
+    (λ split. last_recorded before bad full.inputs split.0 split.1 (subst (IsTrace full.inputs) split.2 full.trace) (full.lines_are ∙ ap (full_lines full.inputs) split.2))
     (last_split full.records)
 
 -- the first lines of a full text are a full text
@@ -148,7 +158,7 @@ full_front (suc n) xs ys some full =
     let y = split.1 in
     let whole : xs ++ ys ≡ (xs ++ front) ++ y ∷ [] = ap (λ t. xs ++ t) split.2 ∙ sym (append_assoc xs front (y ∷ [])) in
     let last = last_line (xs ++ front) y (subst AreFullLines whole full) in
-    full_front n xs front (omega (arith, ap length split.2, length_push front y)) (record { inputs = last.inputs; records = last.records; trace = last.trace; lines = last.lines }))
+    full_front n xs front (omega (arith, ap length split.2, length_push front y)) (record { inputs = last.inputs; records = last.records; trace = last.trace; lines_are = last.lines }))
     (last_split ys)
 
 -- of two beginnings of one list the longer has the shorter and what stands behind it
@@ -244,17 +254,17 @@ module _ (laws : FieldLaws) where
   lines_of_items (x ∷ xs) each = line_comes laws x (concat (map item_text xs)) each.0 ∙ ap (λ t. item_text x ∷ t) (lines_of_items xs each.1)
 
   -- a full text has the trace's lines
-  pub lines_of_text : (inputs : List ℤ) (records : List Record) → IsTrace inputs records → lines_of (full_text inputs records) ≡ full_lines inputs records
+  pub lines_of_text : (inputs : List ℤ) (records : List Record) → IsTrace inputs records → lines_of (run_text true inputs records) ≡ full_lines inputs records
   lines_of_text inputs records trace =
       let is = item_lines inputs records in
-      ap (λ t. lines_of (concat t)) is ∙ lines_of_items (items inputs records) (trace_items inputs records trace) ∙ sym is
+      ap lines_of (text_is_lines inputs records) ∙ ap (λ t. lines_of (concat t)) is ∙ lines_of_items (items inputs records) (trace_items inputs records trace) ∙ sym is
 
   pub one_trace : (text : List ℕ) (vs ws : List ℤ) (rs ss : List Record) → HasFullText vs rs text → HasFullText ws ss text → (vs ≡ ws) × (rs ≡ ss)
   one_trace text vs ws rs ss a b =
-      one_trace_of_lines vs ws rs ss a.trace b.trace (sym (lines_of_text vs rs a.trace) ∙ ap lines_of (sym a.text ∙ b.text) ∙ lines_of_text ws ss b.trace)
+      one_trace_of_lines vs ws rs ss a.trace b.trace (sym (lines_of_text vs rs a.trace) ∙ ap lines_of (sym a.text_is ∙ b.text_is) ∙ lines_of_text ws ss b.trace)
 
   pub no_bad_line : (text : List ℕ) (inputs : List ℤ) (records : List Record) (n : ℕ) → HasFullText inputs records text → IsFirstBad text n → ⊥
   no_bad_line text inputs records n has bad =
       let lines : (bad.before ++ bad.bad ∷ []) ++ bad.after ≡ full_lines inputs records =
-      append_assoc bad.before (bad.bad ∷ []) bad.after ∙ sym bad.split ∙ ap lines_of has.text ∙ lines_of_text inputs records has.trace in
-      bad.none (full_front (length bad.after) (bad.before ++ bad.bad ∷ []) bad.after refl (record { inputs = inputs; records = records; trace = has.trace; lines = lines }))
+      append_assoc bad.before (bad.bad ∷ []) bad.after ∙ sym bad.split ∙ ap lines_of has.text_is ∙ lines_of_text inputs records has.trace in
+      bad.none (full_front (length bad.after) (bad.before ++ bad.bad ∷ []) bad.after refl (record { inputs = inputs; records = records; trace = has.trace; lines_are = lines }))

@@ -6,7 +6,7 @@ use Rattle.std.specs.Option.{option_map}
 use Rattle.std.specs.Str.{all_ascii_digits, bytes_eq}
 use Rattle.std.proofs.lemmas.Bool.{cond-false, both_ways, false_from_ne_true, lt-ltb}
 use Rattle.std.proofs.lemmas.List.{append-nil, append_cancel_right}
-use Rattle.std.proofs.lemmas.Option.{same_Some, none-some}
+use Rattle.std.proofs.lemmas.Option.{some_pair_parts, none-some}
 use Rattle.std.proofs.lemmas.Slice.Eq.{bytes_eq-Decides}
 use Rattle.meaning.specs.declared.value.Entry.{Entry}
 use Rattle.meaning.specs.declared.value.Entry.TheVariants as entry
@@ -242,10 +242,7 @@ module _ (laws : FieldLaws) where
   one_item x y a b is =
       let texts : bare_text x ≡ bare_text y = append_cancel_right (bare_text x) (bare_text y) (10 ∷ []) (sym (shape x).text ∙ is ∙ (shape y).text) in
       let fields : item_fields x ≡ item_fields y = sym (bare_fields x a) ∙ ap fields_of texts ∙ bare_fields y b in
-      let first = item_is x a in
-      let second = item_is y b in
-      let same : whole (item_fields x) ≡ whole (item_fields y) = ap whole fields in
-      cc
+      (some_pair_parts x y [] [] (sym (item_is x a) ∙ ap whole fields ∙ item_is y b)).0
 
   -- what is read of the fields of a line is the line's item
   read_some : (text : List ℕ) (x : Item) → fields_of text ≡ item_fields x → text ++ 10 ∷ [] ≡ item_text x

@@ -1,3 +1,5 @@
-pub mod ItemTexts
 pub mod FullLines
+pub mod ItemTexts
+pub mod LastRecord
 pub mod LinesAreRead
+pub mod TracesAreBuilt

@@ -12,7 +12,7 @@ use Rattle.trace_reader.specs.declared.item.Item.TheVariants.{Given, Recorded}
 use Rattle.trace_reader.specs.FullText.{full_lines, IsTrace, HasFullText, IsFirstBad, AreFullLines}
 use Rattle.trace_reader.specs.inner.Items.{item_text, IsItem, MayFollow, IsAdded}
 use Rattle.trace_reader.proofs.ItemTexts.{one_item}
-use Rattle.trace_reader.proofs.FullLines.{trace_none, trace_given, trace_recorded, lines_given, lines_recorded, Last, last_line, one_trace_of_lines}
+use Rattle.trace_reader.proofs.FullLines.{trace_none, trace_given, trace_recorded, lines_given, lines_recorded, text_is_lines, Last, last_line, one_trace_of_lines}
 
 concat_push : (lines : List (List ℕ)) (line : List ℕ) → concat (lines ++ line ∷ []) ≡ concat lines ++ line
 concat_push [] line = append-nil line
@@ -81,7 +81,7 @@ bad_line text rest number inputs records r len first none = record {
   bad = take len rest;
   after = lines_of (drop len rest);
   split = r.split ∙ ap (λ t. r.before ++ t) first;
-  begins = record { inputs = inputs; records = records; trace = r.trace; lines = r.lines };
+  begins = record { inputs = inputs; records = records; trace = r.trace; lines_are = r.lines };
   none = λ full. none (last_line r.before (take len rest) full);
   number = ap (λ n. n + 1) r.number_is;
 }
@@ -101,4 +101,4 @@ read_misplaced laws text rest number inputs records r len first x is line never 
 
 -- nothing is left
 pub read_all : (text : List ℕ) (number : ℕ) (inputs : List ℤ) (records : List Record) → Read text [] number inputs records → HasFullText inputs records text
-read_all text number inputs records r = record { trace = r.trace; text = r.whole ∙ append-nil (concat r.before) ∙ ap concat r.lines }
+read_all text number inputs records r = record { trace = r.trace; text_is = r.whole ∙ append-nil (concat r.before) ∙ ap concat r.lines ∙ sym (text_is_lines inputs records) }

@@ -1,7 +1,6 @@
 -- The full text of a trace: a line for each input, then one for each record; and the first line that no full text has.
-use Rattle.std.specs.Prelude.{◌≡◌, ℕ, ℤ, ◌+◌, ◌^◌, ◌<◌, Bool, true, false, nat_eq, List, [], ◌∷◌, ◌++◌, length, map, codes, slice_index_or, Option, Some, None}
-use Rattle.std.specs.Fmt.{signed_decimal}
-use Rattle.std.specs.List.{All, concat}
+use Rattle.std.specs.Prelude.{◌≡◌, ℕ, ℤ, ◌+◌, ◌^◌, ◌<◌, Bool, true, false, nat_eq, List, [], ◌∷◌, ◌++◌, length, map, slice_index_or, Option, Some, None, Result, Ok, Err}
+use Rattle.std.specs.List.{All}
 use Rattle.meaning.specs.declared.value.Entry.{Entry}
 use Rattle.meaning.specs.declared.value.Entry.TheVariants as entry
 use Rattle.meaning.specs.declared.action.Action.{Action}
@@ -16,19 +15,14 @@ use Rattle.meaning.specs.declared.small.record.Record.{Record}
 use Rattle.meaning.specs.declared.small.record.Record.TheVariants.{Steps, Did, Noted, Wrote}
 use Rattle.job.specs.Lines.{lines_of}
 use Rattle.fields.specs.Numbers.{IsWord}
-use Rattle.trace.specs.Text.{line, record_text}
+use Rattle.trace.specs.Records.{TraceView}
+use Rattle.trace.specs.Text.{input_text, record_text, run_text}
 use Rattle.trace_reader.specs.declared.error.TraceRefusal.{TraceRefusal}
 use Rattle.trace_reader.specs.declared.error.TraceRefusal.TheVariants as refusal
 
--- the line of an input
-abbrev pub input_text : ℤ → List ℕ
-input_text v = line (codes "in") (signed_decimal v ∷ [])
-
+-- the lines of a full text: one for each input, then one for each record
 abbrev pub full_lines : List ℤ → List Record → List (List ℕ)
 full_lines inputs records = map input_text inputs ++ map record_text records
-
-abbrev pub full_text : List ℤ → List Record → List ℕ
-full_text inputs records = concat (full_lines inputs records)
 
 -- ---- the numbers of records are in range
 
@@ -95,14 +89,14 @@ pub record IsTrace (inputs : List ℤ) (records : List Record) : Type 0 where
 -- a trace with these inputs and records has this full text
 pub record HasFullText (inputs : List ℤ) (records : List Record) (text : List ℕ) : Type 0 where
   pub trace : IsTrace inputs records
-  pub text : text ≡ full_text inputs records
+  pub text_is : text ≡ run_text true inputs records
 
 -- these are all the lines of a trace's full text
 pub record AreFullLines (lines : List (List ℕ)) : Type 0 where
   pub inputs : List ℤ
   pub records : List Record
   pub trace : IsTrace inputs records
-  pub lines : lines ≡ full_lines inputs records
+  pub lines_are : lines ≡ full_lines inputs records
 
 -- line n, from 1, is the first where the text's lines so far are no trace's full text
 pub record IsFirstBad (text : List ℕ) (n : ℕ) : Type 0 where
@@ -118,3 +112,15 @@ pub record IsFirstBad (text : List ℕ) (n : ℕ) : Type 0 where
 abbrev pub IsRefusal : List ℕ → TraceRefusal → Type 0
 IsRefusal text (refusal.Line n) = IsFirstBad text n
 IsRefusal text refusal.Memory = Unit {0}
+
+-- what is answered of a text that a trace has as its full text: that trace, unless memory ran out
+abbrev pub GivesBack : List ℤ → List Record → Result TraceView TraceRefusal → Type 0
+GivesBack inputs records (Ok trace) = (trace.inputs ≡ inputs) × (trace.records ≡ records)
+GivesBack inputs records (Err (refusal.Line n)) = ⊥
+GivesBack inputs records (Err refusal.Memory) = Unit {0}
+
+-- and of a text with such a line: that line
+abbrev pub NamesLine : ℕ → Result TraceView TraceRefusal → Type 0
+NamesLine n (Ok trace) = ⊥
+NamesLine n (Err (refusal.Line m)) = m ≡ n
+NamesLine n (Err refusal.Memory) = Unit {0}

@@ -1,6 +1,7 @@
 //! Traces, read from their full text.
 #![tactic(auto)]
 
+mod build;
 mod deeds;
 mod error;
 mod item;
@@ -9,6 +10,6 @@ mod parts;
 mod read;
 mod theorems;
 
+pub use build::read_trace;
 pub use error::TraceRefusal;
-pub use read::{Lines, read_lines};
 pub use theorems::texts_have_one_trace;

@@ -14,11 +14,11 @@ use std::alloc::{AllocError, Global};
 
 /// The lines of a full text.
 #[derive(Drop)]
-pub struct Lines {
+pub(super) struct Lines {
     /// The inputs, in order.
-    pub inputs: Inputs,
+    pub(super) inputs: Inputs,
     /// The records, in order.
-    pub records: Records,
+    pub(super) records: Records,
 }
 
 /// Whether the next record is steps of the thread whose steps the last one is.
@@ -62,7 +62,7 @@ impl Lines {
 ///
 /// `Line` exactly where the text is no trace's, with the first line that no trace's full text has there;
 /// and `Memory`.
-pub fn read_lines(alloc: Global, bytes: &[u8]) -> Result<Lines, TraceRefusal>
+pub(super) fn read_lines(alloc: Global, bytes: &[u8]) -> Result<Lines, TraceRefusal>
     requires { length bytes.now < 2 ^ 31 }
     ensures found { IfOk result (λ lines. HasFullText lines.inputs lines.records bytes.now) }
     ensures refused { IfErr result (IsRefusal bytes.now) }

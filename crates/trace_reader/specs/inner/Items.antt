@@ -5,11 +5,11 @@ use Rattle.meaning.specs.declared.small.record.Record.{Record}
 use Rattle.meaning.specs.declared.small.record.Record.TheVariants.{Steps, Did, Noted, Wrote}
 use Rattle.fields.specs.Numbers.{IsWord}
 use Rattle.fields.specs.Reading.{Fields, Reads}
-use Rattle.trace.specs.Text.{record_text, did_fields, note_fields}
+use Rattle.trace.specs.Text.{input_text, record_text, did_fields, note_fields}
 use Rattle.trace_reader.specs.declared.item.Item.{Item}
 use Rattle.trace_reader.specs.declared.item.Item.TheVariants.{Given, Recorded}
 use Rattle.trace_reader.specs.inner.Reading.{fork_of}
-use Rattle.trace_reader.specs.FullText.{input_text, IsRecord, join}
+use Rattle.trace_reader.specs.FullText.{IsRecord, join}
 
 abbrev pub item_text : Item → List ℕ
 item_text (Given v) = input_text v
@@ -45,10 +45,14 @@ IsReading raw result =
     ((item : Item) → IsItem item → raw ≢ item_text item)
     (λ item. IsItem item × (raw ≡ item_text item))
 
+-- the last of these records, if there is one, isn't steps of the thread whose steps this one is
+abbrev pub Follows : List Record → Record → Type 0
+Follows records r = (k : ℕ) (d : Record) → k + 1 ≡ length records → join (slice_index_or records k d) r ≡ false
+
 -- the item may stand behind these records
 abbrev pub MayFollow : List Record → Item → Type 0
 MayFollow records (Given v) = records ≡ []
-MayFollow records (Recorded r) = (k : ℕ) (d : Record) → k + 1 ≡ length records → join (slice_index_or records k d) r ≡ false
+MayFollow records (Recorded r) = Follows records r
 
 -- the item stands behind these inputs and records
 abbrev pub IsAdded : List ℤ → List Record → Item → List ℤ → List Record → Type 0

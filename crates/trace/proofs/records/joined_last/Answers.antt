@@ -37,4 +37,4 @@ both_ways xs last r (Some both) is e =
     let n = length_of_last xs last is in (omega arith, within xs _ last r both n is e)
 
 pub returns : goal.returns
-returns c = both_ways c.args.trace.now c.in_ok-last.last.now c.args.entry c.joined.result (rw c.as_slice.ensures at (sym (c.in_ok-last.ensures {u = tt}).value)) c.joined.ensures
+returns c = both_ways c.args.records.now c.in_ok-last.last.now c.args.entry c.joined.result (sym (c.in_ok-last.ensures {u = tt}).value) c.joined.ensures
