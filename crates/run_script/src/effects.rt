@@ -66,8 +66,8 @@ impl<'a> Line<'a> {
     {
         match self {
             Line::Input(word) => inputs.push(word),
-            Line::Empty | Line::Comment(_) | Line::Turns(..) | Line::Rounds(..)
-            | Line::Write(..) => Ok(()),
+            Line::Empty | Line::Comment(_) | Line::Turns(..) | Line::Rounds(..) | Line::Write(..) =>
+                Ok(()),
         }
     }
 

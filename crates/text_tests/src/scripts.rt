@@ -108,8 +108,14 @@ fn gives_events_in_order(rt: HostRuntime) -> Result<(), Fail> {
 /// Inputs alone.
 #[test]
 fn reads_inputs_alone(rt: HostRuntime) -> Result<(), Fail> {
-    let inputs = read_inputs(rt.alloc(), b"in 5\n\n# none\nin -9223372036854775808\r\nin 0")?;
-    assert_eq!(rt; inputs.as_slice(), [5, -9_223_372_036_854_775_808, 0].as_slice());
+    let inputs = read_inputs(
+        rt.alloc(),
+        b"in 5\n\n# none\nin -9223372036854775808\r\nin 0",
+    )?;
+    assert_eq!(rt;
+        inputs.as_slice(),
+        [5, -9_223_372_036_854_775_808, 0].as_slice()
+    );
     let rows: [(&[u8], Option<u32>); 6] = [
         (b"", None),
         (b"#", None),

@@ -5,13 +5,16 @@ use std::test::Fail;
 use trace_reader::{TraceRefusal, read_trace};
 
 /// A job that calls through a pointer, in full.
-const CALLS: &[u8] = b"0 call 1 2 0\n0 steps 2\n0 look 2 yes\n0 put 128 code 0\n0 steps 1\n0 look 2 yes\n0 get 128 code 0\n0 icall 2 0 7 at 128\n0 steps 1\n0 print 1\n0 return 2 2 8\n0 steps 1\n0 return 1 3 1\n0 store 96 1\n0 end\n";
+const CALLS: &[u8] =
+    b"0 call 1 2 0\n0 steps 2\n0 look 2 yes\n0 put 128 code 0\n0 steps 1\n0 look 2 yes\n0 get 128 code 0\n0 icall 2 0 7 at 128\n0 steps 1\n0 print 1\n0 return 2 2 8\n0 steps 1\n0 return 1 3 1\n0 store 96 1\n0 end\n";
 
 /// A return place that was overwritten, on one memory.
-const HIJACK: &[u8] = b"0 store 100663297 196609\n0 call 1 2 0\n0 steps 3\n0 store 128 67108864\n0 steps 2\n0 load 128 67108864\n0 store 100663298 131080\n0 icall 2 0 7 at 128\nw 100663298 0\n0 steps 1\n0 print 1\n0 load 100663298 0\n0 stop hijack\n";
+const HIJACK: &[u8] =
+    b"0 store 100663297 196609\n0 call 1 2 0\n0 steps 3\n0 store 128 67108864\n0 steps 2\n0 load 128 67108864\n0 store 100663298 131080\n0 icall 2 0 7 at 128\nw 100663298 0\n0 steps 1\n0 print 1\n0 load 100663298 0\n0 stop hijack\n";
 
 /// Every other form, with the least and the greatest numbers.
-const FORMS: &[u8] = b"15 steps 18446744073709551615\n0 steps 1\n15 get 0 none\n15 get 4294967295 bare 4294967295\n15 get 1 based 0 1 2 4294967295\n15 put 1 based 0 1 2 3\n15 put 2 bare 0\n1 alloc 256 1026\n1 alloc 1 none\n1 free 1026 yes\n1 free 0 no\n1 look 1026 no\n1 fork 255\n1 fork none\n1 lock 5 -9223372036854775808\n1 input -1 9223372036854775807\n1 call 0 0 0\n1 icall 1 2 3 slot 4 5\n1 start 0 at 66\n1 slot 0 1 2\n1 own 128 3\n1 stop bounds\n1 stop dead\n1 stop bare\n1 stop code\n1 stop type\n1 stop free\n1 stop divide\n1 stop depth\n1 stop slots\n1 stop budget\n1 stop wild\nw 4294967295 -1\n";
+const FORMS: &[u8] =
+    b"15 steps 18446744073709551615\n0 steps 1\n15 get 0 none\n15 get 4294967295 bare 4294967295\n15 get 1 based 0 1 2 4294967295\n15 put 1 based 0 1 2 3\n15 put 2 bare 0\n1 alloc 256 1026\n1 alloc 1 none\n1 free 1026 yes\n1 free 0 no\n1 look 1026 no\n1 fork 255\n1 fork none\n1 lock 5 -9223372036854775808\n1 input -1 9223372036854775807\n1 call 0 0 0\n1 icall 1 2 3 slot 4 5\n1 start 0 at 66\n1 slot 0 1 2\n1 own 128 3\n1 stop bounds\n1 stop dead\n1 stop bare\n1 stop code\n1 stop type\n1 stop free\n1 stop divide\n1 stop depth\n1 stop slots\n1 stop budget\n1 stop wild\nw 4294967295 -1\n";
 
 /// What is read has the same text.
 #[test]

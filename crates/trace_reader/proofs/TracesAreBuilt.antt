@@ -49,18 +49,6 @@ added_last [] r last = refl
 added_last (x ∷ []) r last = joined_apart x r (last 0 r (omega arith))
 added_last (x ∷ y ∷ ys) r last = ap (λ t. x ∷ t) (added_last (y ∷ ys) r (λ k d at. last (suc k) d (omega (arith, at))))
 
--- the next record of a trace goes last
-pub follows_taken : (inputs : List ℤ) (records : List Record) (i : ℕ) (r : Record) → IsTrace inputs records → i < length records → r ≡ get_or records i r → Follows (take i records) r
-follows_taken inputs records i r trace below is = λ k d at.
-    let len : length (take i records) ≡ i = length-take-le i records (omega arith) in
-    let here : k + 1 ≡ i = at ∙ len in
-    let first : get_or (take i records) k d ≡ get_or records k d = get_or-take i records k d (omega arith) in
-    let second : get_or records (k + 1) d ≡ r = ap (λ n. get_or records n d) here ∙ sym (get_or_read records i r below is d) in
-    ap (λ x. join x r) first ∙ ap (join (get_or records k d)) (sym second) ∙ trace.apart k d (omega arith)
-
-pub record_at : (inputs : List ℤ) (records : List Record) (i : ℕ) (r : Record) → IsTrace inputs records → i < length records → r ≡ get_or records i r → IsRecord r
-record_at inputs records i r trace below is = subst IsRecord (sym is) (trace.each i r below)
-
 -- ---- what is answered is all that a text has
 
 pub gives_back : (laws : FieldLaws) (text : List ℕ) (r : Result TraceView TraceRefusal) → IfOk r (λ trace. HasFullText trace.inputs trace.records text) → IfErr r (IsRefusal text) → (inputs : List ℤ) (records : List Record) → HasFullText inputs records text → GivesBack inputs records r
