@@ -1,6 +1,7 @@
-use Rattle.std.proofs.Common.{◌≡◌, true, [], sym, ap, subst, ◌∙◌, rules}
+use Rattle.std.proofs.Common.{◌≡◌, true, length, sym, ap, subst, ◌∙◌}
 use Rattle.std.specs.Result.{is_ok}
-use Rattle.std.proofs.lemmas.Bool.{both_ways}
+use Rattle.std.proofs.lemmas.Bool.{both_ways, eqb-true}
+use Rattle.std.proofs.lemmas.List.{nil_from_length}
 use Rattle.trace_reader.proofs.LinesAreRead.{Read, read_none, read_more, read_bad, read_misplaced, read_all, at_ok}
 use Rattle.trace_reader.proofs.read.read_lines.Goals as goal
 
@@ -29,6 +30,6 @@ loop-rest-preserved c =
 
 pub returns-clause-found : goal.returns-clause-found
 returns-clause-found c =
-    let none : c.loop-rest.rest.now ≡ [] = search rules in
+    let none = nil_from_length c.loop-rest.rest.now (eqb-true (length c.loop-rest.rest.now) 0 (sym c.is_empty.ensures ∙ c.loop-rest-test.false)) in
     read_all c.args.bytes.now c.loop-rest.number c.loop-rest.lines.inputs c.loop-rest.lines.records
     (subst (λ t. Read c.args.bytes.now t c.loop-rest.number c.loop-rest.lines.inputs c.loop-rest.lines.records) none c.loop-rest.invariant)
