@@ -1,0 +1,4 @@
+pub mod FieldLemmas
+pub mod Laws
+pub mod NumberLemmas
+pub mod NumberTexts

@@ -1,0 +1,5 @@
+pub mod Fields
+pub mod Numbers
+pub mod Reading
+pub mod Theorems
+pub mod inner

@@ -1,0 +1,4 @@
+pub mod EffectLemmas
+pub mod LineTexts
+pub mod LinesAreRead
+pub mod OneAnswer

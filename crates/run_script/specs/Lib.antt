@@ -1,0 +1,3 @@
+pub mod Script
+pub mod Theorems
+pub mod inner

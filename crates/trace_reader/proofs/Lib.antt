@@ -1,0 +1,4 @@
+pub mod FullLines
+pub mod ItemTexts
+pub mod LinesAreRead
+pub mod TracesAreBuilt

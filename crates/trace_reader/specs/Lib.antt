@@ -1,0 +1,3 @@
+pub mod FullText
+pub mod Theorems
+pub mod inner
