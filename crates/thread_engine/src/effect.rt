@@ -1,6 +1,6 @@
 //! What an instruction does once its action is answered.
 
-ghost use Rattle.std.specs.Prelude.{◌≡◌, ◌<◌, ◌+◌, List, Some, if◌then◌else◌};
+ghost use Rattle.std.specs.Prelude.{◌≡◌, ◌<◌, ◌+◌, ◌*◌, ◌^◌, List, Some, None, if◌then◌else◌};
 ghost use Rattle.meaning.specs.declared.action.Reply.{Reply};
 ghost use Rattle.machine.specs.declared.code.Code.{Code};
 ghost use Rattle.meaning.specs.declared.value.Value.{Value};
@@ -10,6 +10,7 @@ ghost use Rattle.machine.specs.Protected as spec;
 ghost use Rattle.machine.specs.Protected.{protected};
 ghost use Rattle.machine.specs.Shapes as shape;
 ghost use Rattle.machine.specs.Threads as thread;
+ghost use Rattle.machine.specs.Values as value;
 ghost use Rattle.thread_engine.specs.inner.Frames.{frame_of};
 ghost use Rattle.thread_engine.specs.inner.Turns.{AddressesFit, LiesLow, arguments_of, callee_of, effect_of, write_of};
 
@@ -72,10 +73,7 @@ pub(crate) fn effect_at(
             units,
             kept,
             ..
-        } => {
-            let id = top.object_id();
-            top.defines(*d, object_address(64 * id + *offset, *units, id, *kept))
-        }
+        } => top.defines(*d, top.local_address(*offset, *units, *kept)),
         CodePlace::AddrF { d, f } => top.defines(*d, Value::Code(*f)),
         CodePlace::GetLocal { d, s } => top.defines(*d, top.slot(*s)),
         CodePlace::SetLocal { s, a } => top.sets(*s, top.register(*a)),
@@ -102,14 +100,11 @@ pub(crate) fn effect_at(
         }
         CodePlace::Jump { l } => goes_to(*l),
         CodePlace::Branch { a, l } => top.branches(*a, *l),
-        CodePlace::Call { f, .. } => Effect::Enters {
-            f: *f,
-            through: None,
-        },
-        CodePlace::CallInd { c, ty, origin, .. } => enters_through(
-            Callee::of_call(code, ty, top.register(*c)),
-            top.read_at(depth, *origin),
-        ),
+        CodePlace::Call { f, .. } => enters(*f),
+        CodePlace::CallInd { c, ty, origin, .. } => {
+            let callee = Callee::of_call(code, ty, top.register(*c));
+            enters_through(callee, top.read_at(depth, *origin))
+        }
         CodePlace::Return { a } => Effect::Leaves(top.result_in(*a)),
         CodePlace::Enter => top.drawn(answer),
         CodePlace::Malloc { d, a } => top.defines(*d, allocated(top.number_in(*a), answer)),
@@ -134,6 +129,13 @@ fn goes_to(to: u32) -> Effect
         to,
         write: Write::Nothing,
     }
+}
+
+/// Into a function.
+fn enters(f: u32) -> Effect
+    ensures { (arguments : List Value) → effect_of arguments result ≡ model.Enters f arguments None }
+{
+    Effect::Enters { f, through: None }
 }
 
 /// Into the function that an indirect call reaches, whose pointer was read there.
@@ -305,6 +307,16 @@ impl Frame {
             Reply::Slot(Some(id)) => self.goes(Write::ToObject { id }),
             _ => Effect::Stops(Stop::Slots),
         }
+    }
+
+    /// The address of a local of its object.
+    fn local_address(&self, offset: u32, units: u32, kept: bool) -> Value
+        requires { 64 * shape.object_of protected (frame_of self.now) + offset + units < 2 ^ 32 }
+        ensures { let id = shape.object_of protected (frame_of self.now) in
+            result ≡ value.object_address (64 * id + offset) units id kept }
+    {
+        let id = self.object_id();
+        object_address(64 * id + offset, units, id, kept)
     }
 
     /// What a load gives: a word, an entry, or what a safe local's unit has.
