@@ -1,5 +1,5 @@
 -- The walks of specs, declarators and type words find types that pass, where the walks of their parts do.
-use Rattle.std.proofs.Common.{◌≡◌, ◌∙◌, ◌<◌, ◌≤◌, ℕ, ℤ, suc, pos, Bool, true, false, ◌||◌, ◌&&◌, if◌then◌else◌, List, [], ◌∷◌, ◌++◌, length, nat_le, nat_lt, map, Option, Some, None, int_le, unsigned_abs, le-leb, refl, ap, sym, subst, arith}
+use Rattle.std.proofs.Common.{◌≡◌, ◌∙◌, ◌<◌, ◌≤◌, ℕ, ℤ, zero, suc, pos, Bool, true, false, ◌||◌, ◌&&◌, if◌then◌else◌, List, [], ◌∷◌, ◌++◌, length, nat_le, nat_lt, map, Option, Some, None, int_le, unsigned_abs, negsuc, le-leb, leb-true, refl, ap, sym, subst, arith}
 use Rattle.std.specs.List.{AllByRecursion}
 use Rattle.std.specs.Option.{option_map}
 use Rattle.std.specs.Str.{bytes_eq}
@@ -68,6 +68,10 @@ use Rattle.c_typing_types.proofs.TypedParts.{AbstractTypes, DeclaratorTypes, Dir
 free-allowed : (free : Bool) (n : ℕ) → 1 ≤ n → (free || nat_le 1 n) ≡ true
 free-allowed true n least = refl
 free-allowed false n least = le-leb 1 n least
+
+bound-positive : (v : ℤ) → int_le (pos 1) v ≡ true → 1 ≤ unsigned_abs v
+bound-positive (pos n) is = leb-true 1 n is
+bound-positive (negsuc n) is = cc
 
 at_least_one : (v : ℤ) → is_bound v ≡ true → 1 ≤ unsigned_abs v
 at_least_one v is = bound-positive v (both (int_le (pos 1) v) (int_le v (pos 65536)) is).0

@@ -1,0 +1,17 @@
+mod Good
+mod Shaped
+mod Steps
+mod Nodes
+mod TypedParts
+mod Known
+mod Rules
+mod Claimed
+mod Expressions
+mod Parts
+mod Walks
+mod Initialisers
+mod Declarations
+mod StatementParts
+mod Statements
+mod Sources
+mod Tests

@@ -1,0 +1,85 @@
+-- The two tests are such, and so each type of a source passes them.
+use Rattle.std.proofs.Common.{◌≡◌, ◌∙◌, ◌<◌, ℕ, Bool, true, false, ◌&&◌, nat_le, nat_lt, List, length, map, refl, ap, sym, le_refl}
+use Rattle.std.proofs.lemmas.Bool.Decides.{Decides-ltb}
+use Rattle.std.specs.List.{list_all}
+use Rattle.c_types.specs.declared.ty.FnTy.{FnTy, fold-roll-FnTy, map-FnTy, roll-FnTy}
+use Rattle.c_types.specs.declared.ty.Ty.{Ty, fold-roll-Ty, map-Ty, roll-Ty}
+use Rattle.c_types.specs.declared.ty.Ty.TheOpen.{FnTy-F, Ty-F}
+use Rattle.c_types.specs.declared.ty.Ty.TheVariants as ty
+use Rattle.c_types.specs.Kinds.{Outer}
+use Rattle.c_types.specs.Sound.{function_names_below, function_step, names_below, names_below_step}
+use Rattle.c_typing_types.specs.Theorems.{BoundsAreGiven, TypesNameStructs}
+use Rattle.c_typing_types.specs.Types.{bounds_step, function_has_bounds, has_bounds}
+use Rattle.c_typing_types.proofs.Good.{Good, both, both_true}
+use Rattle.c_typing_types.proofs.Sources.{source-passes}
+
+-- ---- structs
+
+module _ (n : ℕ) where
+  names-made : (y : Outer) → names_below n (roll-Ty y) ≡ names_below_step n (map-Ty Ty FnTy Bool Bool (names_below n) (function_names_below n) y)
+  unfolding names_below function_names_below
+  names-made y = fold-roll-Ty Bool Bool (names_below_step n) function_step y
+
+  names-parts : (y : FnTy-F Ty FnTy) → function_names_below n (roll-FnTy y) ≡ (names_below n y.result && list_all (λ b. b) (map (names_below n) y.params))
+  unfolding names_below function_names_below
+  names-parts y = fold-roll-FnTy Bool Bool (names_below_step n) function_step y
+
+  names-Array : (t : Ty) (bound : ℕ) → names_below n (ty.Array t bound) ≡ names_below n t
+  names-Array t bound = ap (names_below n) (sym (ty.rolls-Array t bound)) ∙ names-made (Ty-F.Array t bound)
+
+  names : Good
+  names = record {
+    count = n;
+    free = true;
+    good = names_below n;
+    good_function = function_names_below n;
+    int = ap (names_below n) (sym ty.rolls-Int) ∙ names-made Ty-F.Int;
+    char = ap (names_below n) (sym ty.rolls-Char) ∙ names-made Ty-F.Char;
+    void = ap (names_below n) (sym ty.rolls-Void) ∙ names-made Ty-F.Void;
+    struct_below = λ s below. ap (names_below n) (sym (ty.rolls-Struct s)) ∙ names-made (Ty-F.Struct s) ∙ (Decides-ltb s n).1 below;
+    pointer = λ t. ap (names_below n) (sym (ty.rolls-Pointer t)) ∙ names-made (Ty-F.Pointer t);
+    element = λ t bound fine. sym (names-Array t bound) ∙ fine;
+    array = λ t bound fine allowed. names-Array t bound ∙ fine;
+    function = λ f. ap (names_below n) (sym (ty.rolls-Function f)) ∙ names-made (Ty-F.Function f);
+    parts = names-parts;
+  }
+
+-- ---- bounds
+
+bounds-made : (y : Outer) → has_bounds (roll-Ty y) ≡ bounds_step (map-Ty Ty FnTy Bool Bool has_bounds function_has_bounds y)
+unfolding has_bounds function_has_bounds
+bounds-made y = fold-roll-Ty Bool Bool bounds_step function_step y
+
+bounds-parts : (y : FnTy-F Ty FnTy) → function_has_bounds (roll-FnTy y) ≡ (has_bounds y.result && list_all (λ b. b) (map has_bounds y.params))
+unfolding has_bounds function_has_bounds
+bounds-parts y = fold-roll-FnTy Bool Bool bounds_step function_step y
+
+bounds-Array : (t : Ty) (bound : ℕ) → has_bounds (ty.Array t bound) ≡ (has_bounds t && nat_le 1 bound)
+bounds-Array t bound = ap has_bounds (sym (ty.rolls-Array t bound)) ∙ bounds-made (Ty-F.Array t bound)
+
+bounds : ℕ → Good
+bounds n = record {
+  count = n;
+  free = false;
+  good = has_bounds;
+  good_function = function_has_bounds;
+  int = ap has_bounds (sym ty.rolls-Int) ∙ bounds-made Ty-F.Int;
+  char = ap has_bounds (sym ty.rolls-Char) ∙ bounds-made Ty-F.Char;
+  void = ap has_bounds (sym ty.rolls-Void) ∙ bounds-made Ty-F.Void;
+  struct_below = λ s below. ap has_bounds (sym (ty.rolls-Struct s)) ∙ bounds-made (Ty-F.Struct s);
+  pointer = λ t. ap has_bounds (sym (ty.rolls-Pointer t)) ∙ bounds-made (Ty-F.Pointer t);
+  element = λ t bound fine. (both (has_bounds t) (nat_le 1 bound) (sym (bounds-Array t bound) ∙ fine)).0;
+  array = λ t bound fine allowed. bounds-Array t bound ∙ both_true (has_bounds t) (nat_le 1 bound) fine allowed;
+  function = λ f. ap has_bounds (sym (ty.rolls-Function f)) ∙ bounds-made (Ty-F.Function f);
+  parts = bounds-parts;
+}
+
+-- ---- sources
+
+pub structs-named : TypesNameStructs
+unfolding names
+structs-named s t is = source-passes (names (length t.structs)) s t is refl (le_refl (length t.structs))
+
+pub bounds-given : BoundsAreGiven
+unfolding bounds
+bounds-given s t is gives = source-passes (bounds (length t.structs)) s t is gives (le_refl (length t.structs))
