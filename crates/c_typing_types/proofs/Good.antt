@@ -8,7 +8,8 @@ use Rattle.c_types.specs.declared.ty.FnTy.{FnTy, out-FnTy, roll-FnTy, roll-out-F
 use Rattle.c_types.specs.declared.ty.Ty.{Ty, out-Ty, roll-Ty, roll-out-Ty}
 use Rattle.c_types.specs.declared.ty.Ty.TheOpen.{FnTy-F, Ty-F}
 use Rattle.c_types.specs.declared.ty.Ty.TheVariants as ty
-use Rattle.c_types.specs.Kinds.{Outer, decay, decay_at, function_at, function_of, target_at, target_of}
+use Rattle.c_types.specs.Kinds.{Outer, decay, decay_at, function_at, function_of, is_pointer, target_at, target_of}
+use Rattle.c_types.specs.Same.{same}
 use Rattle.c_tree.specs.declared.operator.BinaryOperator.{BinaryOperator}
 use Rattle.c_tree.specs.declared.operator.BinaryOperator.TheVariants as op
 use Rattle.c_typed.specs.declared.entity.BuiltIn.{BuiltIn}
@@ -81,7 +82,7 @@ module _ (g : Good) where
 
   pub built_in-fine : (b : BuiltIn) → FunctionFine g (built_in_type b)
   unfolding built_in_type
-  built_in-fine built_in.Spawn = function-fine ty.Int (ty.Pointer (ty.Function (function ty.Void (void_pointer ∷ []))) ∷ void_pointer ∷ []) g.int (started-fine, void_pointer-fine, tt)
+  built_in-fine built_in.Spawn = function-fine ty.Int (ty.Pointer (ty.Function (function ty.Void (void_pointer ∷ []))) ∷ void_pointer ∷ []) g.int (started-fine, (void_pointer-fine, tt))
   built_in-fine built_in.Join = function-fine ty.Void (ty.Int ∷ []) g.void (g.int, tt)
   built_in-fine built_in.Lock = function-fine ty.Void (ty.Pointer ty.Int ∷ []) g.void (int_pointer-fine, tt)
   built_in-fine built_in.Unlock = function-fine ty.Void (ty.Pointer ty.Int ∷ []) g.void (int_pointer-fine, tt)
@@ -183,4 +184,5 @@ module _ (g : Good) where
   pub chosen-gives : (a : Ty) (p : Bool) (b : Ty) (q : Bool) → Fine g a → Fine g b → Gives (chosen_type a p b q)
   unfolding chosen_type
   chosen-gives a p b q fa fb =
-      or-gives (integers a b) _ (integers-give a b) (or-gives _ _ (fits-give _ a fa) (or-gives _ _ (fits-give _ a fa) (fits-give _ b fb)))
+      or-gives (integers a b) _ (integers-give a b)
+      (or-gives _ _ (fits-give (is_pointer a && same a b) a fa) (or-gives _ _ (fits-give (is_pointer a && q) a fa) (fits-give (p && is_pointer b) b fb)))

@@ -197,17 +197,23 @@ module _ (g : Good) where
   abbrev HeldAbstract : Type 0
   HeldAbstract = (t : AbstractDeclarator) × FindsAbstract g t
 
-  -- what stands in the brackets, if something does
-  inside-goes : (o : Option HeldAbstract) (w : World) → Goes g (Unit {0}) w (maybe (option_map walked.abstract (option_map (λ (h : HeldAbstract). h.0) o)) w) held_inside
-  inside-goes None w = ends g (λ known fit. tt)
-  inside-goes (Some a) w = after g _ _ (a.1 w) (λ x v. ends g (λ known fit. known.1))
+  -- what stands in the brackets, where something does
+  inside-goes : (a : HeldAbstract) (w : World) → Goes g (Unit {0}) w (maybe (Some (walked.abstract a.0)) w) held_inside
+  inside-goes a w = after g _ _ (a.1 w) (λ x v. ends g (λ known fit. known.1))
+
+  abstract_by : (n : ℕ) (o : Option HeldAbstract) (hs : List HeldSuffix) → FindsAbstract g (roll-AbstractDeclarator (nodes.bare_abstract (claims g) (record { stars = n; bracketed = o; suffixes = hs })))
+  abstract_by n None hs = λ w.
+      subst (λ (p : Walk (TypedAbstractDeclarator × List Layer)). Goes g (Unit {0}) w (p w) (ReadyAbstract g)) (sym (nodes.walked-abstract (record { stars = n; bracketed = None; suffixes = map (λ (h : HeldSuffix). h.0) hs })))
+      (after g _ _ (suffixes-go hs w) (λ ss u.
+      ends g (λ known fit. (abstract-made n None ss.0 tt known.1.0, all_layers n [] ss.1 tt known.1.1))))
+  abstract_by n (Some a) hs = λ w.
+      subst (λ (p : Walk (TypedAbstractDeclarator × List Layer)). Goes g (Unit {0}) w (p w) (ReadyAbstract g)) (sym (nodes.walked-abstract (record { stars = n; bracketed = Some a.0; suffixes = map (λ (h : HeldSuffix). h.0) hs })))
+      (after g (maybe (Some (walked.abstract a.0)) w) _ (inside-goes a w) (λ o v.
+      after g _ _ (under g _ (λ known. tt) (suffixes-go hs v)) (λ ss u.
+      ends g (λ known fit. (abstract-made n o ss.0 known.0.1 known.1.0, all_layers n (layers_inside o) ss.1 (inside-layers o known.0.1) known.1.1)))))
 
   pub abstract-goes : (y : Held (claims g) AbstractDeclarator-F) → FindsAbstract g (roll-AbstractDeclarator (nodes.bare_abstract (claims g) y))
-  abstract-goes y = λ w.
-      subst (λ (p : Walk (TypedAbstractDeclarator × List Layer)). Goes g (Unit {0}) w (p w) (ReadyAbstract g)) (sym (nodes.walked-abstract (nodes.bare_abstract (claims g) y)))
-      (after g _ _ (inside-goes y.bracketed w) (λ o v.
-      after g _ _ (under g _ (λ known. tt) (suffixes-go y.suffixes v)) (λ ss u.
-      ends g (λ known fit. (abstract-made y.stars o ss.0 known.0.1 known.1.0, all_layers y.stars (layers_inside o) ss.1 (inside-layers o known.0.1) known.1.1)))))
+  abstract-goes y = abstract_by y.stars y.bracketed y.suffixes
 
   -- ---- type words
 
