@@ -25,6 +25,9 @@ module _ (fits : Ty → Bool) where
   pub ForTypes : TypedForLoop → Type 0
   ForTypes = every-TypedForLoop (BlockItemLevel fits) (StmtLevel fits) (λ _. Unit {0}) (ForLevel fits)
 
+-- ---- each form
+
+module _ (fits : Ty → Bool) where
   pub stmt-Block : (b : TypedBlock) → BlockTypes fits b → StmtLevel fits (TypedStmt-F.Block b) → StmtTypes fits (stmt.Block b)
   unfolding BlockItemTypes StmtTypes BlockTypes ForTypes
   stmt-Block b hb level = subst (StmtTypes fits) (stmt.rolls-Block b) (every_made-TypedStmt (BlockItemLevel fits) (StmtLevel fits) (λ _. Unit {0}) (ForLevel fits) (TypedStmt-F.Block b) (TypedStmt-F.Block (b, hb)) refl level)
