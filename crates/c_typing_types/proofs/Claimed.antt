@@ -1,9 +1,9 @@
 -- Of each type of tree: that its walk finds types that pass.
-use Rattle.std.proofs.Common.{Bool, List}
-use Rattle.std.specs.List.{AllByRecursion}
+use Rattle.std.proofs.Common.{◌≡◌, ◌||◌, Bool, true, List}
 use Rattle.c_types.specs.declared.structs.Member.{Member}
 use Rattle.c_types.specs.declared.ty.Ty.{Ty}
 use Rattle.c_layers.specs.declared.layer.Layer.{Layer}
+use Rattle.c_layers.specs.declared.layer.Layer.TheVariants as layer
 use Rattle.c_layers.specs.declared.layer.Parameter.{Parameter}
 use Rattle.c_tree.specs.declared.expression.AbstractDeclarator.{AbstractDeclarator}
 use Rattle.c_tree.specs.declared.expression.Declarator.{Declarator}
@@ -27,6 +27,7 @@ use Rattle.c_scope.specs.BuiltIns.{Name}
 use Rattle.c_rules.specs.declared.place.Place.{Place}
 use Rattle.c_expr_typing.specs.declared.layered.LayeredDeclarator.{LayeredDeclarator}
 use Rattle.c_expr_typing.specs.Trees.{walked}
+use Rattle.c_typing_types.specs.Filled.{are_some, declares, spec_fills}
 use Rattle.c_typing_types.specs.Types.{SpecTypes}
 use Rattle.c_typing_types.proofs.Good.{Fine, Good}
 use Rattle.c_typing_types.proofs.Nodes.{Claims}
@@ -45,7 +46,7 @@ module _ (g : Good) where
   ReadyParam x = ParamTypes g.good x.0 × ParameterFine g x.1
 
   abbrev pub ReadyParams : TypedParams × List Parameter → Type 0
-  ReadyParams x = ParamsTypes g.good x.0 × AllByRecursion (ParameterFine g) x.1
+  ReadyParams x = ParamsTypes g.good x.0 × LayerFine g (layer.Function x.1)
 
   abbrev pub ReadySpec : TypedSpec × Ty → Type 0
   ReadySpec x = SpecTypes g.good x.0 × Fine g x.1
@@ -59,8 +60,9 @@ module _ (g : Good) where
   abbrev pub ReadyDeclarator : LayeredDeclarator → Type 0
   ReadyDeclarator x = DeclaratorTypes g.good x.tree × LayersFine g x.layers
 
-  abbrev pub ReadyMember : TypedMemberDecl × List Member → Type 0
-  ReadyMember x = MemberTypes g.good x.0 × MembersFine g x.1
+  -- there is a member behind these where the line declares one, or where one stood before
+  abbrev pub ReadyMember : Bool → List Member → TypedMemberDecl × List Member → Type 0
+  ReadyMember some before x = MemberTypes g.good x.0 × MembersFine g x.1 × ((some || are_some before) ≡ true → are_some x.1 ≡ true)
 
   -- ---- what its walk does
 
@@ -76,8 +78,9 @@ module _ (g : Good) where
   abbrev pub FindsParams : Params → Type 0
   FindsParams t = (w : World) → Goes g (Unit {0}) w (walked.params t w) ReadyParams
 
+  -- where a body may stand and something is asked, it isn't empty
   abbrev pub FindsSpec : Spec → Type 0
-  FindsSpec t = (bodies : Bool) (w : World) → Goes g (Unit {0}) w (walked.spec t bodies w) ReadySpec
+  FindsSpec t = (bodies : Bool) → (bodies ≡ true → (g.free || spec_fills t) ≡ true) → (w : World) → Goes g (Unit {0}) w (walked.spec t bodies w) ReadySpec
 
   abbrev pub FindsSuffix : Suffix → Type 0
   FindsSuffix t = (w : World) → Goes g (Unit {0}) w (walked.suffix t w) ReadySuffix
@@ -90,7 +93,7 @@ module _ (g : Good) where
 
   -- behind members that pass
   abbrev pub FindsMember : MemberDecl → Type 0
-  FindsMember t = (before : List Member) (w : World) → Goes g (MembersFine g before) w (walked.member t before w) ReadyMember
+  FindsMember t = (before : List Member) (w : World) → Goes g (MembersFine g before) w (walked.member t before w) (ReadyMember (declares t) before)
 
   abbrev pub FindsTypeWord : TypeWord → Type 0
   FindsTypeWord t = (w : World) → Goes g (Unit {0}) w (walked.type_word t w) (ReadyWord g)

@@ -1,20 +1,21 @@
 -- Tests of types that what types are made of decides, and what they say of a type's parts.
-use Rattle.std.proofs.Common.{◌≡◌, ◌∙◌, ◌<◌, ℕ, Bool, true, false, ◌&&◌, ◌||◌, nat_le, List, [], ◌∷◌, map, Option, Some, None, refl, ap, sym, subst}
-use Rattle.std.specs.List.{AllByRecursion, list_all}
+use Rattle.std.proofs.Common.{◌≡◌, ◌∙◌, ◌<◌, ◌≤◌, ℕ, Bool, true, false, ◌&&◌, ◌||◌, nat_le, List, [], ◌∷◌, length, Option, Some, None, refl, ap, sym, subst, arith}
+use Rattle.std.specs.List.{AllByRecursion}
 use Rattle.std.specs.Option.{option_map, option_or}
 use Rattle.c_layers.specs.Shapes.{function}
 use Rattle.c_types.specs.declared.structs.StructDef.{StructDef}
-use Rattle.c_types.specs.declared.ty.FnTy.{FnTy, out-FnTy, roll-FnTy, roll-out-FnTy}
+use Rattle.c_types.specs.declared.ty.FnTy.{FnTy, out-FnTy}
 use Rattle.c_types.specs.declared.ty.Ty.{Ty, out-Ty, roll-Ty, roll-out-Ty}
-use Rattle.c_types.specs.declared.ty.Ty.TheOpen.{FnTy-F, Ty-F}
+use Rattle.c_types.specs.declared.ty.Ty.TheOpen.{Ty-F}
 use Rattle.c_types.specs.declared.ty.Ty.TheVariants as ty
-use Rattle.c_types.specs.Kinds.{Outer, decay, decay_at, function_at, function_of, is_pointer, target_at, target_of}
+use Rattle.c_types.specs.Kinds.{Outer, decay, decay_at, function_at, function_of, is_pointer, is_scalar, is_scalar_at, is_void, is_void_at, target_at, target_of}
 use Rattle.c_types.specs.Same.{same}
 use Rattle.c_tree.specs.declared.operator.BinaryOperator.{BinaryOperator}
 use Rattle.c_tree.specs.declared.operator.BinaryOperator.TheVariants as op
 use Rattle.c_typed.specs.declared.entity.BuiltIn.{BuiltIn}
 use Rattle.c_typed.specs.declared.entity.BuiltIn.TheVariants as built_in
-use Rattle.c_scope.specs.BuiltIns.{built_in_type, void_pointer}
+use Rattle.c_scope.specs.BuiltIns.{built_in_type, spawn_type, void_pointer}
+use Rattle.c_scope.specs.Declarations.{most_parameters}
 use Rattle.c_operators.specs.Operators.{added, chosen_type, common_type, compared, if_fits, integers, operated_types, ordered, subtracted, tested}
 
 pub both : (a b : Bool) → (a && b) ≡ true → (a ≡ true) × (b ≡ true)
@@ -25,7 +26,12 @@ pub both_true : (a b : Bool) → a ≡ true → b ≡ true → (a && b) ≡ true
 both_true true b first second = second
 both_true false b first second = cc
 
--- A test of types. Structs of the first so many pass it, and arrays of so many elements as are allowed, or of any number where none is asked for.
+-- a function may return it
+abbrev pub IsResult : Ty → Type 0
+IsResult t = (is_scalar t || is_void t) ≡ true
+
+-- A test of types. Structs of the first so many pass it, arrays of so many elements as are allowed, or of any number where nothing is asked,
+-- and functions that declarators make, whose parts do.
 pub record Good : Type 0 where
   pub count : ℕ
   pub free : Bool
@@ -39,7 +45,14 @@ pub record Good : Type 0 where
   pub element : (t : Ty) (bound : ℕ) → good (ty.Array t bound) ≡ true → good t ≡ true
   pub array : (t : Ty) (bound : ℕ) → good t ≡ true → (free || nat_le 1 bound) ≡ true → good (ty.Array t bound) ≡ true
   pub function : (f : FnTy) → good (ty.Function f) ≡ good_function f
-  pub parts : (y : FnTy-F Ty FnTy) → good_function (roll-FnTy y) ≡ (good y.result && list_all (λ b. b) (map good y.params))
+  pub made :
+      (t : Ty) (ts : List Ty)
+      → good t ≡ true
+      → IsResult t
+      → AllByRecursion (λ u. (good u ≡ true) × (is_scalar u ≡ true)) ts
+      → length ts ≤ most_parameters
+      → good_function (function t ts) ≡ true
+  pub result : (f : FnTy) → good_function f ≡ true → good (out-FnTy f).result ≡ true
 
 abbrev pub Fine : Good → Ty → Type 0
 Fine g t = g.good t ≡ true
@@ -51,19 +64,29 @@ FunctionFine g f = g.good_function f ≡ true
 abbrev pub Allowed : Good → ℕ → Type 0
 Allowed g n = (g.free || nat_le 1 n) ≡ true
 
+-- of a parameter's type
+abbrev pub ParamFine : Good → Ty → Type 0
+ParamFine g t = Fine g t × (is_scalar t ≡ true)
+
+-- ---- kinds
+
+int-scalar : is_scalar ty.Int ≡ true
+unfolding is_scalar
+int-scalar = ap is_scalar_at ty.outs-Int
+
+pointer-scalar : (t : Ty) → is_scalar (ty.Pointer t) ≡ true
+unfolding is_scalar
+pointer-scalar t = ap is_scalar_at (ty.outs-Pointer t)
+
+scalar-result : (t : Ty) → is_scalar t ≡ true → IsResult t
+scalar-result t is = ap (λ b. b || is_void t) is
+
+void-result : IsResult ty.Void
+unfolding is_scalar is_void
+void-result = ap (λ o. is_scalar_at o || is_void_at o) ty.outs-Void
+
 module _ (g : Good) where
   -- ---- functions
-
-  all-fine : (ts : List Ty) → AllByRecursion (Fine g) ts → list_all (λ b. b) (map g.good ts) ≡ true
-  all-fine [] all = refl
-  all-fine (t ∷ ts) all = both_true (g.good t) (list_all (λ b. b) (map g.good ts)) all.0 (all-fine ts all.1)
-
-  pub function-fine : (t : Ty) (ts : List Ty) → Fine g t → AllByRecursion (Fine g) ts → FunctionFine g (function t ts)
-  function-fine t ts fine all = g.parts (record { result = t; params = ts }) ∙ both_true (g.good t) (list_all (λ b. b) (map g.good ts)) fine (all-fine ts all)
-
-  pub result-fine : (f : FnTy) → FunctionFine g f → Fine g (out-FnTy f).result
-  result-fine f fine =
-      (both (g.good (out-FnTy f).result) (list_all (λ b. b) (map g.good (out-FnTy f).params)) (sym (g.parts (out-FnTy f)) ∙ ap g.good_function (roll-out-FnTy f) ∙ fine)).0
 
   pub pointer-fine : (t : Ty) → Fine g t → Fine g (ty.Pointer t)
   pointer-fine t fine = g.pointer t ∙ fine
@@ -71,25 +94,38 @@ module _ (g : Good) where
   pub function_type-fine : (f : FnTy) → FunctionFine g f → Fine g (ty.Function f)
   function_type-fine f fine = g.function f ∙ fine
 
-  void_pointer-fine : Fine g void_pointer
-  void_pointer-fine = pointer-fine ty.Void g.void
+  void_pointer-fine : ParamFine g void_pointer
+  void_pointer-fine = (pointer-fine ty.Void g.void, pointer-scalar ty.Void)
 
-  int_pointer-fine : Fine g (ty.Pointer ty.Int)
-  int_pointer-fine = pointer-fine ty.Int g.int
+  int_pointer-fine : ParamFine g (ty.Pointer ty.Int)
+  int_pointer-fine = (pointer-fine ty.Int g.int, pointer-scalar ty.Int)
 
-  started-fine : Fine g (ty.Pointer (ty.Function (function ty.Void (void_pointer ∷ []))))
-  started-fine = pointer-fine (ty.Function (function ty.Void (void_pointer ∷ []))) (function_type-fine (function ty.Void (void_pointer ∷ [])) (function-fine ty.Void (void_pointer ∷ []) g.void (void_pointer-fine, tt)))
+  int-fine : ParamFine g ty.Int
+  int-fine = (g.int, int-scalar)
+
+  -- of one parameter
+  one-fine : (t u : Ty) → Fine g t → IsResult t → ParamFine g u → FunctionFine g (function t (u ∷ []))
+  one-fine t u fine result param = g.made t (u ∷ []) fine result (param, tt) (omega arith)
+
+  started-fine : ParamFine g (ty.Pointer (ty.Function (function ty.Void (void_pointer ∷ []))))
+  started-fine = (
+    pointer-fine (ty.Function (function ty.Void (void_pointer ∷ []))) (function_type-fine (function ty.Void (void_pointer ∷ [])) (one-fine ty.Void void_pointer g.void void-result void_pointer-fine)),
+    pointer-scalar (ty.Function (function ty.Void (void_pointer ∷ []))),
+  )
+
+  spawn-fine : FunctionFine g spawn_type
+  spawn-fine = g.made ty.Int (ty.Pointer (ty.Function (function ty.Void (void_pointer ∷ []))) ∷ void_pointer ∷ []) g.int (scalar-result ty.Int int-scalar) (started-fine, (void_pointer-fine, tt)) (omega arith)
 
   pub built_in-fine : (b : BuiltIn) → FunctionFine g (built_in_type b)
   unfolding built_in_type
-  built_in-fine built_in.Spawn = function-fine ty.Int (ty.Pointer (ty.Function (function ty.Void (void_pointer ∷ []))) ∷ void_pointer ∷ []) g.int (started-fine, (void_pointer-fine, tt))
-  built_in-fine built_in.Join = function-fine ty.Void (ty.Int ∷ []) g.void (g.int, tt)
-  built_in-fine built_in.Lock = function-fine ty.Void (ty.Pointer ty.Int ∷ []) g.void (int_pointer-fine, tt)
-  built_in-fine built_in.Unlock = function-fine ty.Void (ty.Pointer ty.Int ∷ []) g.void (int_pointer-fine, tt)
-  built_in-fine built_in.Print = function-fine ty.Void (ty.Int ∷ []) g.void (g.int, tt)
-  built_in-fine built_in.Input = function-fine ty.Int (ty.Int ∷ []) g.int (g.int, tt)
-  built_in-fine built_in.Malloc = function-fine void_pointer (ty.Int ∷ []) void_pointer-fine (g.int, tt)
-  built_in-fine built_in.Free = function-fine ty.Void (void_pointer ∷ []) g.void (void_pointer-fine, tt)
+  built_in-fine built_in.Spawn = spawn-fine
+  built_in-fine built_in.Join = one-fine ty.Void ty.Int g.void void-result int-fine
+  built_in-fine built_in.Lock = one-fine ty.Void (ty.Pointer ty.Int) g.void void-result int_pointer-fine
+  built_in-fine built_in.Unlock = one-fine ty.Void (ty.Pointer ty.Int) g.void void-result int_pointer-fine
+  built_in-fine built_in.Print = one-fine ty.Void ty.Int g.void void-result int-fine
+  built_in-fine built_in.Input = one-fine ty.Int ty.Int g.int (scalar-result ty.Int int-scalar) int-fine
+  built_in-fine built_in.Malloc = one-fine void_pointer ty.Int void_pointer-fine.0 (scalar-result void_pointer (pointer-scalar ty.Void)) int-fine
+  built_in-fine built_in.Free = one-fine ty.Void void_pointer g.void void-result void_pointer-fine
 
   -- ---- what a type becomes
 

@@ -42,7 +42,7 @@ module _ (g : Good) where
   value_rules-go : (is_global : Bool) (t : Ty) (x : TypedExpr) (w : World) → Goes g (Unit {0}) w (value_rules is_global t x w) (λ u. Unit {0})
   unfolding value_rules
   value_rules-go is_global t x w = ruled g broken.Form (takes_value t) _ (λ takes. ruled g broken.Unconverted (converts x t) _ (λ fits.
-      rule-goes g broken.NotConstant (not is_global || is_constant_leaf x) (λ known. tt)))
+      rule-goes g broken.NotConstant (not is_global || is_constant_leaf x) (λ holds known. tt)))
 
   leaf_rules-go : (is_global : Bool) (to : Option Ty) (x : TypedExpr) (w : World) → Goes g (Unit {0}) w (leaf_rules is_global to x w) (λ u. Unit {0})
   leaf_rules-go is_global None x w = ends g (λ known fit. tt)
@@ -64,7 +64,7 @@ module _ (g : Good) where
 
   parts_rule-goes : (to : Option Ty) (n : ℕ) (w : World) → Goes g (Unit {0}) w (parts_rule to n w) (λ u. Unit {0})
   parts_rule-goes None n w = ends g (λ known fit. tt)
-  parts_rule-goes (Some t) n w = rule-goes g broken.Form (has_parts w.structs n t) (λ known. tt)
+  parts_rule-goes (Some t) n w = rule-goes g broken.Form (has_parts w.structs n t) (λ holds known. tt)
 
   module _ (is_global : Bool) where
     abbrev pub FindsInit : Init → Type 0

@@ -92,7 +92,7 @@ module _ (g : Good) where
   pub tagged-fine : (ds : List StructDef) (x : Name) → StructsFine g ds → StructsFine g (with_tag ds x)
   tagged-fine ds x all = last-held (λ d. BodyFine g d.members) ds (record { name = x; members = None }) all tt
 
-  pub defined-fine : (ds : List StructDef) (n : ℕ) (ms : List Member) → StructsFine g ds → MembersFine g ms → StructsFine g (with_body ds n ms)
+  pub defined-fine : (ds : List StructDef) (n : ℕ) (ms : List Member) → StructsFine g ds → BodyFine g (Some ms) → StructsFine g (with_body ds n ms)
   defined-fine [] n ms all fine = tt
   defined-fine (d ∷ ds) zero ms all fine = (fine, all.1)
   defined-fine (d ∷ ds) (suc n) ms all fine = (all.0, defined-fine ds n ms all.1 fine)
@@ -103,7 +103,7 @@ module _ (g : Good) where
 
   in_body : (n : ℕ) (t : Ty) (o : Option (List Member)) → BodyFine g o → option_map (λ m. m.ty) (option_and_then (λ ms. slice_get ms n) o) ≡ Some t → Fine g t
   in_body n t None fine is = cc
-  in_body n t (Some ms) fine is = in_members ms n t (slice_get ms n) refl fine is
+  in_body n t (Some ms) fine is = in_members ms n t (slice_get ms n) refl fine.0 is
 
   in_struct : (ds : List StructDef) (s n : ℕ) (t : Ty) (o : Option StructDef) → slice_get ds s ≡ o → StructsFine g ds
       → option_map (λ m. m.ty) (option_and_then (λ ms. slice_get ms n) (option_and_then (λ d. d.members) o)) ≡ Some t → Fine g t

@@ -15,3 +15,6 @@ mod StatementParts
 mod Statements
 mod Sources
 mod Tests
+mod Functions
+mod Units
+mod Laws

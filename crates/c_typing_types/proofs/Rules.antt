@@ -36,7 +36,7 @@ use Rattle.c_operators.specs.Constants.{of_unary}
 use Rattle.c_operators.specs.Operators.{FormLayer, chosen, constant_of, form_of, is_assignable, is_integer_value, is_lvalue, is_scalar_value, operated, type_of, typed, value_type}
 use Rattle.c_rules.specs.Rules.{address, all_convert, arithmetic, arrow, assigned_by, assigned_type, assignment, binary, call, called, called_type, cast, conditional, conditional_type, dereference, dereferenced, has_address, identifier, identifier_by, index, indexed, mark_addressed, mark_at, may_be_cast, means_function, member, member_behind, member_found, member_of, mentioned, mentioned_by, named, negation, number, one, operand_rule, plain, pointed, size_of_type, size_of_value, stepped, takes, takes_type, text, unary_of, updated, variable}
 use Rattle.c_typing_types.specs.Types.{ExprTypes}
-use Rattle.c_typing_types.proofs.Good.{Allowed, Fine, Good, built_in-fine, chosen-gives, decay-fine, function_type-fine, operated-gives, pointer-fine, result-fine, target-fine}
+use Rattle.c_typing_types.proofs.Good.{Allowed, Fine, Good, built_in-fine, chosen-gives, decay-fine, function_type-fine, operated-gives, pointer-fine, target-fine}
 use Rattle.c_typing_types.proofs.Known.{addressed-fine, behind_by, callee-fine, known-fine, marked-fine, meaning-fine, member-fine}
 use Rattle.c_typing_types.proofs.Steps.{Fit, Goes, MeaningFine, after, changed, ends, finds, found-goes, longer-same, never, ruled, under, weaker}
 use Rattle.c_typing_types.proofs.TypedParts as parts
@@ -74,7 +74,7 @@ module _ (g : Good) where
   unfolding mark_used
   function-goes x None w is = never g
   function-goes x (Some f) w is = changed g w _ (longer-same w) (λ few known fit. (
-    record { scopes = fit.scopes; functions = marked-fine g true false w.functions x fit.functions; structs = fit.structs; locals = fit.locals },
+    record { scopes = fit.scopes; functions = marked-fine g true false w.functions x fit.functions; structs = fit.structs; locals = fit.locals; few = fit.few },
     named-ready x entity.Function (ty.Function f.ty) (function_type-fine g f.ty (known-fine g w.functions x f fit.functions is)),
   ))
 
@@ -110,7 +110,7 @@ module _ (g : Good) where
   pub text-goes : (bytes : List ℕ) (w : World) → Goes g (Unit {0}) w (text bytes w) (Ready g)
   unfolding text
   text-goes bytes w = changed g w _ (longer-same w) (λ few known fit. (
-    record { scopes = fit.scopes; functions = fit.functions; structs = fit.structs; locals = fit.locals },
+    record { scopes = fit.scopes; functions = fit.functions; structs = fit.structs; locals = fit.locals; few = fit.few },
     made (form.Text bytes (length w.strings)) (ty.Array ty.Char (length bytes + 1)) constant.Other (parts.form-Text g.good bytes (length w.strings))
         (g.array ty.Char (length bytes + 1) g.char (one-more g.free (length bytes))),
   ))
@@ -194,7 +194,7 @@ module _ (g : Good) where
 
   mark_at-goes : (node : FormLayer) (w : World) → Goes g (Unit {0}) w (mark_at node w) (λ u. Unit {0})
   mark_at-goes (TypedForm-F.Identifier y (entity.Local n)) w = changed g w _ (longer-same w) (λ few known fit. (
-    record { scopes = fit.scopes; functions = fit.functions; structs = fit.structs; locals = addressed-fine g n w.locals fit.locals },
+    record { scopes = fit.scopes; functions = fit.functions; structs = fit.structs; locals = addressed-fine g n w.locals fit.locals; few = fit.few },
     tt,
   ))
   mark_at-goes (TypedForm-F.Identifier y (entity.Global n)) w = ends g (λ known fit. tt)
@@ -248,7 +248,7 @@ module _ (g : Good) where
 
   callee-result : (x : TypedExpr) (f : FnTy) → called_type x ≡ Some f → Ready g x → Fine g (out-FnTy f).result
   unfolding called_type
-  callee-result x f is hx = result-fine g f (callee-fine g (value_type x) f (value-fine x hx) is)
+  callee-result x f is hx = g.result f (callee-fine g (value_type x) f (value-fine x hx) is)
 
   called-goes : (x : TypedExpr) (ys : List TypedExpr) (w : World) → Goes g (Ready g x × AllByRecursion (Ready g) ys) w (called x ys w) (Fine g)
   unfolding called

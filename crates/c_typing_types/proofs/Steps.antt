@@ -1,5 +1,5 @@
 -- Walks forward: what is known of the types before a walk is known behind it, and holds of what it finds.
-use Rattle.std.proofs.Common.{◌≡◌, ◌≤◌, ℕ, Bool, true, false, IsTrue, List, [], ◌∷◌, length, map, Option, Some, None, Ok, Err, refl, ap, subst, arith, le_refl}
+use Rattle.std.proofs.Common.{◌≡◌, ◌≤◌, ◌||◌, ℕ, Bool, true, false, IsTrue, List, [], ◌∷◌, length, map, Option, Some, None, Ok, Err, refl, ap, subst, arith, le_refl}
 use Rattle.std.specs.List.{AllByRecursion}
 use Rattle.c_types.specs.declared.structs.Member.{Member}
 use Rattle.c_types.specs.declared.structs.StructDef.{StructDef}
@@ -10,8 +10,9 @@ use Rattle.c_scope.specs.declared.scopes.Meaning.{Meaning}
 use Rattle.c_scope.specs.declared.scopes.Meaning.TheVariants as means
 use Rattle.c_scope.specs.declared.world.KnownFunction.{KnownFunction}
 use Rattle.c_scope.specs.declared.world.World.{World}
-use Rattle.c_scope.specs.Scopes.{enter, leave, outer, within}
+use Rattle.c_scope.specs.Scopes.{enter, leave, most_tags, outer, within}
 use Rattle.c_scope.specs.Walk.{Outcome, Walk, and_then, each, each_pair, found, rule}
+use Rattle.c_typing_types.specs.Filled.{are_some}
 use Rattle.c_typing_types.proofs.Good.{Fine, FunctionFine, Good}
 
 -- ---- worlds
@@ -27,9 +28,10 @@ ScopesFine g ss = AllByRecursion (AllByRecursion (λ b. MeaningFine g b.meaning)
 abbrev pub MembersFine : Good → List Member → Type 0
 MembersFine g ms = AllByRecursion (λ m. Fine g m.ty) ms
 
+-- and there is a member, or nothing is asked
 abbrev pub BodyFine : Good → Option (List Member) → Type 0
 BodyFine g None = Unit {0}
-BodyFine g (Some ms) = MembersFine g ms
+BodyFine g (Some ms) = MembersFine g ms × ((g.free || are_some ms) ≡ true)
 
 abbrev pub StructsFine : Good → List StructDef → Type 0
 StructsFine g ds = AllByRecursion (λ d. BodyFine g d.members) ds
@@ -46,6 +48,7 @@ pub record Fit (g : Good) (w : World) : Type 0 where
   pub functions : FunctionsFine g w.functions
   pub structs : StructsFine g w.structs
   pub locals : LocalsFine g w.locals
+  pub few : length w.structs ≤ most_tags
 
 abbrev pub Longer : World → World → Type 0
 Longer w v = length w.structs ≤ length v.structs
@@ -117,8 +120,8 @@ module _ (g : Good) where
   finds r (Some a) f goes = goes a refl
 
   -- a rule or a choice at the end of a walk
-  pub rule-goes : {K : Type 0} {P : Type 0} {w : World} (r : Rule) (b : Bool) → (K → P) → Goes g K w (rule r b w) (λ u. P)
-  rule-goes r true holds = ends (λ known fit. holds known)
+  pub rule-goes : {K : Type 0} {P : Type 0} {w : World} (r : Rule) (b : Bool) → (IsTrue b → K → P) → Goes g K w (rule r b w) (λ u. P)
+  rule-goes r true holds = ends (λ known fit. holds refl known)
   rule-goes r false holds = never
 
   pub found-goes : {A : Type 0} {K : Type 0} {Q : A → Type 0} {w : World} (r : Rule) (o : Option A) → ((a : A) → o ≡ Some a → K → Fit g w → Q a) → Goes g K w (found r o w) Q
@@ -132,10 +135,10 @@ module _ (g : Good) where
   outer-fine (s ∷ ss) all = all.1
 
   entered : (w : World) → Fit g w → Fit g (record w { scopes = [] ∷ w.scopes })
-  entered w fit = record { scopes = (tt, fit.scopes); functions = fit.functions; structs = fit.structs; locals = fit.locals }
+  entered w fit = record { scopes = (tt, fit.scopes); functions = fit.functions; structs = fit.structs; locals = fit.locals; few = fit.few }
 
   left : (w : World) → Fit g w → Fit g (record w { scopes = outer w.scopes })
-  left w fit = record { scopes = outer-fine w.scopes fit.scopes; functions = fit.functions; structs = fit.structs; locals = fit.locals }
+  left w fit = record { scopes = outer-fine w.scopes fit.scopes; functions = fit.functions; structs = fit.structs; locals = fit.locals; few = fit.few }
 
   closed : {A : Type 0} {K : Type 0} {Q : A → Type 0} (w : World) (o : Outcome (A × World)) → Goes g K (record w { scopes = [] ∷ w.scopes }) o Q
       → Goes g K w (and_then o (λ x v. Ok (x, record v { scopes = outer v.scopes }))) Q

@@ -1,17 +1,19 @@
--- The two tests are such, and so each type of a source passes them.
-use Rattle.std.proofs.Common.{◌≡◌, ◌∙◌, ◌<◌, ℕ, Bool, true, false, ◌&&◌, nat_le, nat_lt, List, length, map, refl, ap, sym, le_refl}
+-- That structs are of a table and that bounds are at least 1 are tests that declarators decide.
+use Rattle.std.proofs.Common.{◌≡◌, ◌∙◌, ◌<◌, ℕ, Bool, true, false, ◌&&◌, nat_le, nat_lt, List, [], ◌∷◌, map, refl, ap, sym}
 use Rattle.std.proofs.lemmas.Bool.Decides.{Decides-ltb}
-use Rattle.std.specs.List.{list_all}
-use Rattle.c_types.specs.declared.ty.FnTy.{FnTy, fold-roll-FnTy, map-FnTy, roll-FnTy}
+use Rattle.std.specs.List.{AllByRecursion, list_all}
+use Rattle.c_types.specs.declared.ty.FnTy.{FnTy, fold-roll-FnTy, out-FnTy, roll-FnTy, roll-out-FnTy}
 use Rattle.c_types.specs.declared.ty.Ty.{Ty, fold-roll-Ty, map-Ty, roll-Ty}
 use Rattle.c_types.specs.declared.ty.Ty.TheOpen.{FnTy-F, Ty-F}
 use Rattle.c_types.specs.declared.ty.Ty.TheVariants as ty
-use Rattle.c_types.specs.Kinds.{Outer}
+use Rattle.c_types.specs.Kinds.{Outer, is_scalar}
 use Rattle.c_types.specs.Sound.{function_names_below, function_step, names_below, names_below_step}
-use Rattle.c_typing_types.specs.Theorems.{BoundsAreGiven, TypesNameStructs}
 use Rattle.c_typing_types.specs.Types.{bounds_step, function_has_bounds, has_bounds}
 use Rattle.c_typing_types.proofs.Good.{Good, both, both_true}
-use Rattle.c_typing_types.proofs.Sources.{source-passes}
+
+all-pass : (test : Ty → Bool) (ts : List Ty) → AllByRecursion (λ u. (test u ≡ true) × (is_scalar u ≡ true)) ts → list_all (λ b. b) (map test ts) ≡ true
+all-pass test [] all = refl
+all-pass test (t ∷ ts) all = both_true (test t) (list_all (λ b. b) (map test ts)) all.0.0 (all-pass test ts all.1)
 
 -- ---- structs
 
@@ -27,7 +29,7 @@ module _ (n : ℕ) where
   names-Array : (t : Ty) (bound : ℕ) → names_below n (ty.Array t bound) ≡ names_below n t
   names-Array t bound = ap (names_below n) (sym (ty.rolls-Array t bound)) ∙ names-made (Ty-F.Array t bound)
 
-  names : Good
+  abbrev pub names : Good
   names = record {
     count = n;
     free = true;
@@ -41,12 +43,13 @@ module _ (n : ℕ) where
     element = λ t bound fine. sym (names-Array t bound) ∙ fine;
     array = λ t bound fine allowed. names-Array t bound ∙ fine;
     function = λ f. ap (names_below n) (sym (ty.rolls-Function f)) ∙ names-made (Ty-F.Function f);
-    parts = names-parts;
+    made = λ t ts fine result all few. names-parts (record { result = t; params = ts }) ∙ both_true (names_below n t) (list_all (λ b. b) (map (names_below n) ts)) fine (all-pass (names_below n) ts all);
+    result = λ f fine. (both (names_below n (out-FnTy f).result) (list_all (λ b. b) (map (names_below n) (out-FnTy f).params)) (sym (names-parts (out-FnTy f)) ∙ ap (function_names_below n) (roll-out-FnTy f) ∙ fine)).0;
   }
 
 -- ---- bounds
 
-bounds-made : (y : Outer) → has_bounds (roll-Ty y) ≡ bounds_step (map-Ty Ty FnTy Bool Bool has_bounds function_has_bounds y)
+pub bounds-made : (y : Outer) → has_bounds (roll-Ty y) ≡ bounds_step (map-Ty Ty FnTy Bool Bool has_bounds function_has_bounds y)
 unfolding has_bounds function_has_bounds
 bounds-made y = fold-roll-Ty Bool Bool bounds_step function_step y
 
@@ -57,7 +60,7 @@ bounds-parts y = fold-roll-FnTy Bool Bool bounds_step function_step y
 bounds-Array : (t : Ty) (bound : ℕ) → has_bounds (ty.Array t bound) ≡ (has_bounds t && nat_le 1 bound)
 bounds-Array t bound = ap has_bounds (sym (ty.rolls-Array t bound)) ∙ bounds-made (Ty-F.Array t bound)
 
-bounds : ℕ → Good
+abbrev pub bounds : ℕ → Good
 bounds n = record {
   count = n;
   free = false;
@@ -71,15 +74,6 @@ bounds n = record {
   element = λ t bound fine. (both (has_bounds t) (nat_le 1 bound) (sym (bounds-Array t bound) ∙ fine)).0;
   array = λ t bound fine allowed. bounds-Array t bound ∙ both_true (has_bounds t) (nat_le 1 bound) fine allowed;
   function = λ f. ap has_bounds (sym (ty.rolls-Function f)) ∙ bounds-made (Ty-F.Function f);
-  parts = bounds-parts;
+  made = λ t ts fine result all few. bounds-parts (record { result = t; params = ts }) ∙ both_true (has_bounds t) (list_all (λ b. b) (map has_bounds ts)) fine (all-pass has_bounds ts all);
+  result = λ f fine. (both (has_bounds (out-FnTy f).result) (list_all (λ b. b) (map has_bounds (out-FnTy f).params)) (sym (bounds-parts (out-FnTy f)) ∙ ap function_has_bounds (roll-out-FnTy f) ∙ fine)).0;
 }
-
--- ---- sources
-
-pub structs-named : TypesNameStructs
-unfolding names
-structs-named s t is = source-passes (names (length t.structs)) s t is refl (le_refl (length t.structs))
-
-pub bounds-given : BoundsAreGiven
-unfolding bounds
-bounds-given s t is gives = source-passes (bounds (length t.structs)) s t is gives (le_refl (length t.structs))

@@ -1,3 +1,3 @@
 pub mod Types
-pub mod Bounds
+pub mod Filled
 pub mod Theorems

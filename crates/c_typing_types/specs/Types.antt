@@ -1,9 +1,10 @@
--- That each type of a typed source passes a test, and the tests: that it names structs of a table, and that its bounds are at least 1.
-use Rattle.std.specs.Prelude.{ℕ, Bool, true, ◌&&◌, nat_le, IsTrue, Option, Some, None}
-use Rattle.std.specs.List.{AllByRecursion}
-use Rattle.c_types.specs.declared.ty.FnTy.{FnTy, fold-FnTy}
+-- That each type of a typed source passes a test, and tests: that its bounds are at least 1, and that declarators make its functions.
+use Rattle.std.specs.Prelude.{ℕ, ◌≤◌, Bool, true, false, ◌&&◌, ◌||◌, nat_le, IsTrue, List, length, Option, Some, None}
+use Rattle.std.specs.List.{AllByRecursion, list_all}
+use Rattle.c_types.specs.declared.ty.FnTy.{FnTy, fold-FnTy, out-FnTy}
 use Rattle.c_types.specs.declared.ty.Ty.{Ty, fold-Ty}
-use Rattle.c_types.specs.declared.ty.Ty.TheOpen.{Ty-F}
+use Rattle.c_types.specs.declared.ty.Ty.TheOpen.{FnTy-F, Ty-F}
+use Rattle.c_types.specs.Kinds.{is_scalar, is_void}
 use Rattle.c_types.specs.Sound.{function_step}
 use Rattle.c_typed.specs.declared.expression.Declared.{Declared, every-Declared}
 use Rattle.c_typed.specs.declared.expression.TypedAbstractDeclarator.{TypedAbstractDeclarator}
@@ -34,6 +35,7 @@ use Rattle.c_typed.specs.declared.unit.Typed.{Typed}
 use Rattle.c_typed.specs.declared.unit.TypedFn.{TypedFn}
 use Rattle.c_typed.specs.declared.unit.TypedItem.{TypedItem}
 use Rattle.c_typed.specs.declared.unit.TypedItem.TheVariants as item
+use Rattle.c_scope.specs.Declarations.{most_parameters}
 
 -- ---- bounds
 
@@ -50,6 +52,46 @@ has_bounds = fold-Ty Bool Bool bounds_step function_step
 -- the same of a function's type
 unfoldable pub function_has_bounds : FnTy → Bool
 function_has_bounds = fold-FnTy Bool Bool bounds_step function_step
+
+-- ---- functions
+
+-- what is known of a type from its parts: that each function in it is one that a declarator makes, and which kind it is
+pub record Tested : Type 0 where
+  pub fits : Bool
+  pub scalar : Bool
+  pub void : Bool
+
+abbrev pub functions_step : Ty-F Tested Bool → Tested
+functions_step Ty-F.Int = record { fits = true; scalar = true; void = false }
+functions_step Ty-F.Char = record { fits = true; scalar = true; void = false }
+functions_step Ty-F.Void = record { fits = true; scalar = false; void = true }
+functions_step (Ty-F.Struct s) = record { fits = true; scalar = false; void = false }
+functions_step (Ty-F.Pointer target) = record { fits = target.fits; scalar = true; void = false }
+functions_step (Ty-F.Array element bound) = record { fits = element.fits; scalar = false; void = false }
+functions_step (Ty-F.Function f) = record { fits = f; scalar = false; void = false }
+
+-- it gives a scalar or nothing, and takes at most eight scalars
+abbrev pub declared_step : FnTy-F Tested Bool → Bool
+declared_step f =
+    (f.result.fits && (f.result.scalar || f.result.void))
+    && (list_all (λ p. p.fits && p.scalar) f.params && nat_le (length f.params) most_parameters)
+
+unfoldable pub tested : Ty → Tested
+tested = fold-Ty Tested Bool functions_step declared_step
+
+-- each function in the type, also behind pointers, is so
+unfoldable pub functions_fit : Ty → Bool
+functions_fit t = (tested t).fits
+
+-- the same of a function's type
+unfoldable pub function_fits : FnTy → Bool
+function_fits = fold-FnTy Tested Bool functions_step declared_step
+
+-- what that says of a function
+pub record IsDeclarable (f : FnTy) : Type 0 where
+  pub params : IsTrue (list_all is_scalar (out-FnTy f).params)
+  pub few : length (out-FnTy f).params ≤ most_parameters
+  pub result : IsTrue (is_scalar (out-FnTy f).result || is_void (out-FnTy f).result)
 
 -- ---- trees each of whose types passes a test
 

@@ -1,4 +1,4 @@
-use Rattle.c_typing_types.proofs.Tests.{bounds-given}
+use Rattle.c_typing_types.proofs.Laws.{bounds-given}
 use Rattle.c_typing_types.proofs.theorems.bounds_are_given.Goals as goal
 
 pub returns : goal.returns
