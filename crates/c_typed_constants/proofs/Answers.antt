@@ -38,8 +38,8 @@ refused f is = ap (λ s. s >>= f) is
 none_first : {r : Answer ℤ} (f : ℤ → Answer ℤ) → NoValue r → NoValue (r >>= f)
 none_first {r} f none u is = let s = split r f u is in none s.0 s.1.0
 
-none_then : {A : Type 0} {r : Answer A} (f : A → Answer ℤ) → ((a : A) → NoValue (f a)) → NoValue (r >>= f)
-none_then {A} {r} f none u is = let s = split r f u is in none s.0 u s.1.1
+none_then : {A : Type 0} (r : Answer A) (f : A → Answer ℤ) → ((a : A) → NoValue (f a)) → NoValue (r >>= f)
+none_then r f none u is = let s = split r f u is in none s.0 u s.1.1
 
 -- ---- a constant and what is answered where it is evaluated, and where it isn't
 
@@ -53,17 +53,17 @@ abbrev pub Of : Constant → (Bool → Answer ℤ) → Type 0
 Of c p = Agrees c (p true) (p false)
 
 same_answers : (c : Constant) {a b d e : Answer ℤ} → a ≡ b → d ≡ e → Agrees c b e → Agrees c a d
-same_answers c live dead agrees = subst (λ r. Agrees c r _) (sym live) (subst (λ r. Agrees c _ r) (sym dead) agrees)
+same_answers c {a} {b} {d} {e} live dead agrees = subst (λ r. Agrees c r d) (sym live) (subst (λ r. Agrees c b r) (sym dead) agrees)
 
 -- where a constant is one of the two, the answer where it isn't evaluated is a value
 abbrev IsKnown : Constant → Type 0
 IsKnown constant.Other = ⊥
 IsKnown _ = Unit {0}
 
-dead_value : (c : Constant) {live dead : Answer ℤ} → IsKnown c → Agrees c live dead → HasValue dead
-dead_value (constant.Value v) known agrees = (v, agrees.1)
-dead_value constant.Divides known agrees = agrees.1
-dead_value constant.Other known agrees = absurd known
+dead_value : (c : Constant) (live dead : Answer ℤ) → IsKnown c → Agrees c live dead → HasValue dead
+dead_value (constant.Value v) live dead known agrees = (v, agrees.1)
+dead_value constant.Divides live dead known agrees = agrees.1
+dead_value constant.Other live dead known agrees = absurd known
 
 -- ---- one operand
 
@@ -73,7 +73,7 @@ mapped f q is constant.Divides a agrees = (refused q agrees.0, (f agrees.1.0, gi
 mapped f q is constant.Other a agrees = (none_first q agrees.0, none_first q agrees.1)
 
 refusing : (q : ℤ → Answer ℤ) → ((x : ℤ) → NoValue (q x)) → (a : Bool → Answer ℤ) → Agrees constant.Other (a true >>= q) (a false >>= q)
-refusing q none a = (none_then q none, none_then q none)
+refusing q none a = (none_then (a true) q none, none_then (a false) q none)
 
 pub unary-agrees : (o : UnaryOperator) (c : Constant) (a : Bool → Answer ℤ) → Of c a → Of (of_unary o c) (unary o a)
 unary-agrees sign.Negate c a agrees = mapped negated (unary_value sign.Negate) (λ x. refl) c a agrees
@@ -84,13 +84,13 @@ unary-agrees sign.Dereference c a agrees = refusing (unary_value sign.Dereferenc
 
 -- ---- casts
 
-kept : (c : Constant) {live dead : Answer ℤ} → Agrees (of_value (λ x. x) c) live dead → Agrees c live dead
-kept (constant.Value v) agrees = agrees
-kept constant.Divides agrees = agrees
-kept constant.Other agrees = agrees
+kept : (c : Constant) (live dead : Answer ℤ) → Agrees (of_value (λ x. x) c) live dead → Agrees c live dead
+kept (constant.Value v) live dead agrees = agrees
+kept constant.Divides live dead agrees = agrees
+kept constant.Other live dead agrees = agrees
 
 converted-agrees : (o : Outer) (c : Constant) (a : Bool → Answer ℤ) → Of c a → Agrees (of_cast o c) (a true >>= converted o) (a false >>= converted o)
-converted-agrees Ty-F.Int c a agrees = kept c (mapped (λ x. x) (converted Ty-F.Int) (λ x. refl) c a agrees)
+converted-agrees Ty-F.Int c a agrees = kept c (a true >>= converted Ty-F.Int) (a false >>= converted Ty-F.Int) (mapped (λ x. x) (converted Ty-F.Int) (λ x. refl) c a agrees)
 converted-agrees Ty-F.Char c a agrees = mapped as_char (converted Ty-F.Char) (λ x. refl) c a agrees
 converted-agrees Ty-F.Void c a agrees = refusing (converted Ty-F.Void) (λ x u is. cc) a
 converted-agrees (Ty-F.Struct s) c a agrees = refusing (converted (Ty-F.Struct s)) (λ x u is. cc) a
@@ -128,7 +128,7 @@ first_none : (o : BinaryOperator) (a b : Bool → Answer ℤ) → Of constant.Ot
 first_none o a b agrees = (none_first (behind o b true) agrees.0, none_first (behind o b false) agrees.1)
 
 second_none : (o : BinaryOperator) (a b : Bool → Answer ℤ) → Of constant.Other b → Of constant.Other (binary o a b)
-second_none o a b agrees = (none_then (behind o b true) (none_behind o b true agrees.0 agrees.1), none_then (behind o b false) (none_behind o b false agrees.0 agrees.1))
+second_none o a b agrees = (none_then (a true) (behind o b true) (none_behind o b true agrees.0 agrees.1), none_then (a false) (behind o b false) (none_behind o b false agrees.0 agrees.1))
 
 -- neither is evaluated, and both have values
 both_dead : (o : BinaryOperator) (a b : Bool → Answer ℤ) → HasValue (a false) → HasValue (b false) → HasValue (binary o a b false)
@@ -137,7 +137,7 @@ both_dead o a b first second =
     (e.0, given (behind o b false) first.1 ∙ given (λ y. divided false (computed o first.0 y)) second.1 ∙ e.1)
 
 divides_first : (o : BinaryOperator) (d : Constant) (a b : Bool → Answer ℤ) → IsKnown d → Of constant.Divides a → Of d b → Of constant.Divides (binary o a b)
-divides_first o d a b known first second = (refused (behind o b true) first.0, both_dead o a b first.1 (dead_value d known second))
+divides_first o d a b known first second = (refused (behind o b true) first.0, both_dead o a b first.1 (dead_value d (b true) (b false) known second))
 
 module _ (o : BinaryOperator) (always : (x : ℤ) → evaluates_second o x ≡ true) where
   live_second : (b : Bool → Answer ℤ) (x : ℤ) → behind o b true x ≡ (b true >>= (λ y. divided true (computed o x y)))
@@ -159,12 +159,14 @@ module _ (o : BinaryOperator) (always : (x : ℤ) → evaluates_second o x ≡ t
       (quotient (computed o x y))
 
 -- `&&`, where the first operand is 0 or isn't
+abbrev and_end : Bool → ℤ → Answer ℤ
+and_end zero y = Ok (truth (not zero && not (is_zero y)))
+
 and_by : (zero : Bool) (d : Constant) (b : Bool → Answer ℤ) → IsKnown d → Of d b
-    → Agrees (if zero then constant.Value (pos 0) else as_truth d)
-    (b (not zero) >>= (λ y. Ok (truth (not zero && not (is_zero y))))) (b false >>= (λ y. Ok (truth (not zero && not (is_zero y)))))
-and_by true d b known agrees = let u = dead_value d known agrees in (given _ u.1, given _ u.1)
-and_by false (constant.Value y) b known agrees = (given _ agrees.0, given _ agrees.1)
-and_by false constant.Divides b known agrees = (refused _ agrees.0, (truth (not (is_zero agrees.1.0)), given _ agrees.1.1))
+    → Agrees (if zero then constant.Value (pos 0) else as_truth d) (b (not zero) >>= and_end zero) (b false >>= and_end zero)
+and_by true d b known agrees = let u = dead_value d (b true) (b false) known agrees in (given (and_end true) u.1, given (and_end true) u.1)
+and_by false (constant.Value y) b known agrees = (given (and_end false) agrees.0, given (and_end false) agrees.1)
+and_by false constant.Divides b known agrees = (refused (and_end false) agrees.0, (truth (not (is_zero agrees.1.0)), given (and_end false) agrees.1.1))
 and_by false constant.Other b known agrees = absurd known
 
 and-agrees : (c d : Constant) (a b : Bool → Answer ℤ) → Of c a → Of d b → Of (of_and c d) (binary op.LogicalAnd a b)
@@ -179,12 +181,14 @@ and-agrees (constant.Value x) (constant.Value y) a b first second = same_answers
     (given (behind op.LogicalAnd b true) first.0) (given (behind op.LogicalAnd b false) first.1) (and_by (is_zero x) (constant.Value y) b tt second)
 
 -- `||`
+abbrev or_end : Bool → ℤ → Answer ℤ
+or_end zero y = Ok (truth (not zero || not (is_zero y)))
+
 or_by : (zero : Bool) (d : Constant) (b : Bool → Answer ℤ) → IsKnown d → Of d b
-    → Agrees (if zero then as_truth d else constant.Value (pos 1))
-    (b zero >>= (λ y. Ok (truth (not zero || not (is_zero y))))) (b false >>= (λ y. Ok (truth (not zero || not (is_zero y)))))
-or_by false d b known agrees = let u = dead_value d known agrees in (given _ u.1, given _ u.1)
-or_by true (constant.Value y) b known agrees = (given _ agrees.0, given _ agrees.1)
-or_by true constant.Divides b known agrees = (refused _ agrees.0, (truth (not (is_zero agrees.1.0)), given _ agrees.1.1))
+    → Agrees (if zero then as_truth d else constant.Value (pos 1)) (b zero >>= or_end zero) (b false >>= or_end zero)
+or_by false d b known agrees = let u = dead_value d (b true) (b false) known agrees in (given (or_end false) u.1, given (or_end false) u.1)
+or_by true (constant.Value y) b known agrees = (given (or_end true) agrees.0, given (or_end true) agrees.1)
+or_by true constant.Divides b known agrees = (refused (or_end true) agrees.0, (truth (not (is_zero agrees.1.0)), given (or_end true) agrees.1.1))
 or_by true constant.Other b known agrees = absurd known
 
 or-agrees : (c d : Constant) (a b : Bool → Answer ℤ) → Of c a → Of d b → Of (of_or c d) (binary op.LogicalOr a b)
@@ -220,38 +224,45 @@ binary-agrees op.Remainder c d a b first second = both-agree op.Remainder (λ x.
 
 -- ---- a test and its arms
 
+-- behind the values of both arms, and of the first
+abbrev last_arm : Bool → ℤ → ℤ → Answer ℤ
+last_arm zero y z = Ok (if zero then z else y)
+
+abbrev second_arm : (Bool → Answer ℤ) → Bool → Bool → ℤ → Answer ℤ
+second_arm b live zero y = b (live && zero) >>= last_arm zero y
+
 abbrev arms : (Bool → Answer ℤ) → (Bool → Answer ℤ) → Bool → Bool → Answer ℤ
-arms a b live zero = a (live && not zero) >>= (λ y. b (live && zero) >>= (λ z. Ok (if zero then z else y)))
+arms a b live zero = a (live && not zero) >>= second_arm b live zero
 
 none_first_arm : (a b : Bool → Answer ℤ) (live zero : Bool) → Of constant.Other a → NoValue (arms a b live zero)
-none_first_arm a b live zero agrees = none_first (λ y. b (live && zero) >>= (λ z. Ok (if zero then z else y))) (either a (live && not zero) agrees.0 agrees.1)
+none_first_arm a b live zero agrees = none_first (second_arm b live zero) (either a (live && not zero) agrees.0 agrees.1)
 
 none_second_arm : (a b : Bool → Answer ℤ) (live zero : Bool) → Of constant.Other b → NoValue (arms a b live zero)
-none_second_arm a b live zero agrees = none_then (λ y. b (live && zero) >>= (λ z. Ok (if zero then z else y))) (λ y. none_first (λ z. Ok (if zero then z else y)) (either b (live && zero) agrees.0 agrees.1))
+none_second_arm a b live zero agrees = none_then (a (live && not zero)) (second_arm b live zero) (λ y. none_first (last_arm zero y) (either b (live && zero) agrees.0 agrees.1))
 
 dead_arms : (a b : Bool → Answer ℤ) (zero : Bool) → HasValue (a false) → HasValue (b false) → HasValue (arms a b false zero)
-dead_arms a b zero first second = (if zero then second.0 else first.0, given _ first.1 ∙ given _ second.1)
+dead_arms a b zero first second = (if zero then second.0 else first.0, given (second_arm b false zero) first.1 ∙ given (last_arm zero first.0) second.1)
 
 arms_by : (zero : Bool) (c d : Constant) (a b : Bool → Answer ℤ) → IsKnown c → IsKnown d → Of c a → Of d b
     → Agrees (if zero then d else c) (arms a b true zero) (arms a b false zero)
 arms_by true c (constant.Value v) a b one two first second =
-    let u = dead_value c one first in
-    (given _ u.1 ∙ given _ second.0, given _ u.1 ∙ given _ second.1)
+    let u = dead_value c (a true) (a false) one first in
+    (given (second_arm b true true) u.1 ∙ given (last_arm true u.0) second.0, given (second_arm b false true) u.1 ∙ given (last_arm true u.0) second.1)
 arms_by true c constant.Divides a b one two first second =
-    let u = dead_value c one first in
-    (given _ u.1 ∙ refused _ second.0, dead_arms a b true u second.1)
+    let u = dead_value c (a true) (a false) one first in
+    (given (second_arm b true true) u.1 ∙ refused (last_arm true u.0) second.0, dead_arms a b true u second.1)
 arms_by true c constant.Other a b one two first second = absurd two
 arms_by false (constant.Value v) d a b one two first second =
-    let u = dead_value d two second in
-    (given _ first.0 ∙ given _ u.1, given _ first.1 ∙ given _ u.1)
+    let u = dead_value d (b true) (b false) two second in
+    (given (second_arm b true false) first.0 ∙ given (last_arm false v) u.1, given (second_arm b false false) first.1 ∙ given (last_arm false v) u.1)
 arms_by false constant.Divides d a b one two first second =
-    let u = dead_value d two second in
-    (refused _ first.0, dead_arms a b false first.1 u)
+    let u = dead_value d (b true) (b false) two second in
+    (refused (second_arm b true false) first.0, dead_arms a b false first.1 u)
 arms_by false constant.Other d a b one two first second = absurd one
 
 test_divides : (c d : Constant) (t a b : Bool → Answer ℤ) → IsKnown c → IsKnown d → Of constant.Divides t → Of c a → Of d b → Of constant.Divides (conditional t a b)
 test_divides c d t a b one two test first second =
-    let r = dead_arms a b (is_zero test.1.0) (dead_value c one first) (dead_value d two second) in
+    let r = dead_arms a b (is_zero test.1.0) (dead_value c (a true) (a false) one first) (dead_value d (b true) (b false) two second) in
     (refused (λ x. arms a b true (is_zero x)) test.0, (r.0, given (λ x. arms a b false (is_zero x)) test.1.1 ∙ r.1))
 
 tested : (x : ℤ) (c d : Constant) (t a b : Bool → Answer ℤ) → IsKnown c → IsKnown d → Of (constant.Value x) t → Of c a → Of d b
@@ -260,7 +271,7 @@ tested x c d t a b one two test first second = same_answers (if is_zero x then d
     (given (λ x. arms a b true (is_zero x)) test.0) (given (λ x. arms a b false (is_zero x)) test.1) (arms_by (is_zero x) c d a b one two first second)
 
 no_arm : (t a b : Bool → Answer ℤ) → ((live zero : Bool) → NoValue (arms a b live zero)) → Of constant.Other (conditional t a b)
-no_arm t a b none = (none_then (λ x. arms a b true (is_zero x)) (λ x. none true (is_zero x)), none_then (λ x. arms a b false (is_zero x)) (λ x. none false (is_zero x)))
+no_arm t a b none = (none_then (t true) (λ x. arms a b true (is_zero x)) (λ x. none true (is_zero x)), none_then (t false) (λ x. arms a b false (is_zero x)) (λ x. none false (is_zero x)))
 
 pub conditional-agrees : (e c d : Constant) (t a b : Bool → Answer ℤ) → Of e t → Of c a → Of d b → Of (of_conditional e c d) (conditional t a b)
 conditional-agrees constant.Other c d t a b test first second = (none_first (λ x. arms a b true (is_zero x)) test.0, none_first (λ x. arms a b false (is_zero x)) test.1)
@@ -283,7 +294,7 @@ conditional-agrees (constant.Value x) (constant.Value y) (constant.Value z) t a 
 
 other-none : (es : List (Bool → Answer ℤ)) (live : Bool) → NoValue (other_form es live)
 other-none [] live u is = cc
-other-none (e ∷ es) live = none_then {r = e live} (λ x. other_form es live) (λ x. other-none es live)
+other-none (e ∷ es) live = none_then (e live) (λ x. other_form es live) (λ x. other-none es live)
 
 pub other-agrees : (es : List (Bool → Answer ℤ)) → Of constant.Other (other_form es)
 other-agrees es = (other-none es true, other-none es false)

@@ -108,6 +108,7 @@ module _ (g : Good) where
       functions = fit.functions;
       structs = fit.structs;
       locals = last-held (λ (l : Local). Fine g l.ty) w.locals (record { name = x; ty = t; is_addressed = false }) fit.locals known;
+      few = fit.few;
     },
     tt,
   ))
@@ -120,6 +121,7 @@ module _ (g : Good) where
       functions = last-held (λ (k : KnownFunction). FunctionFine g k.ty) w.functions (record { name = x; ty = f; first = w.item; is_used = false; is_defined = false }) fit.functions known;
       structs = fit.structs;
       locals = fit.locals;
+      few = fit.few;
     },
     tt,
   ))

@@ -65,7 +65,7 @@ params-fit (t ∷ ts) all = both_true ((tested t).fits && (tested t).scalar) (li
 few-fit : (ts : List Ty) → length ts ≤ most_parameters → nat_le (length (map tested ts)) most_parameters ≡ true
 few-fit ts few = le-leb (length (map tested ts)) most_parameters (subst (λ n. n ≤ most_parameters) (sym (tested-length ts)) few)
 
-made-fits : (t : Ty) (ts : List Ty) → functions_fit t ≡ true → IsResult t → AllByRecursion (λ u. (functions_fit u ≡ true) × (is_scalar u ≡ true)) ts → length ts ≤ most_parameters
+pub made-fits : (t : Ty) (ts : List Ty) → functions_fit t ≡ true → IsResult t → AllByRecursion (λ u. (functions_fit u ≡ true) × (is_scalar u ≡ true)) ts → length ts ≤ most_parameters
     → function_fits (function t ts) ≡ true
 unfolding functions_fit
 made-fits t ts fits result all few =
@@ -75,13 +75,13 @@ made-fits t ts fits result all few =
     (both_true (list_all (λ p. p.fits && p.scalar) (map tested ts)) (nat_le (length (map tested ts)) most_parameters) (params-fit ts all) (few-fit ts few))
 
 -- what the test says of a function's parts
-record Said (f : FnTy) : Type 0 where
-  result_fits : functions_fit (out-FnTy f).result ≡ true
-  result : ((tested (out-FnTy f).result).scalar || (tested (out-FnTy f).result).void) ≡ true
-  params : list_all (λ p. p.fits && p.scalar) (map tested (out-FnTy f).params) ≡ true
-  few : nat_le (length (map tested (out-FnTy f).params)) most_parameters ≡ true
+pub record Said (f : FnTy) : Type 0 where
+  pub result_fits : functions_fit (out-FnTy f).result ≡ true
+  pub result : ((tested (out-FnTy f).result).scalar || (tested (out-FnTy f).result).void) ≡ true
+  pub params : list_all (λ p. p.fits && p.scalar) (map tested (out-FnTy f).params) ≡ true
+  pub few : nat_le (length (map tested (out-FnTy f).params)) most_parameters ≡ true
 
-said : (f : FnTy) → function_fits f ≡ true → Said f
+pub said : (f : FnTy) → function_fits f ≡ true → Said f
 unfolding functions_fit
 said f fits =
     let t : Ty = (out-FnTy f).result in
@@ -109,31 +109,31 @@ declarable f fits =
 
 -- ---- the test
 
-fits-Function : (f : FnTy) → functions_fit (ty.Function f) ≡ function_fits f
+pub fits-Function : (f : FnTy) → functions_fit (ty.Function f) ≡ function_fits f
 unfolding functions_fit
 fits-Function f = ap (λ t. (tested t).fits) (sym (ty.rolls-Function f)) ∙ ap (λ r. r.fits) (tested-made (Ty-F.Function f))
 
-fits-Array : (t : Ty) (n : ℕ) → functions_fit (ty.Array t n) ≡ functions_fit t
+pub fits-Array : (t : Ty) (n : ℕ) → functions_fit (ty.Array t n) ≡ functions_fit t
 unfolding functions_fit
 fits-Array t n = ap (λ t. (tested t).fits) (sym (ty.rolls-Array t n)) ∙ ap (λ r. r.fits) (tested-made (Ty-F.Array t n))
 
-fits-Pointer : (t : Ty) → functions_fit (ty.Pointer t) ≡ functions_fit t
+pub fits-Pointer : (t : Ty) → functions_fit (ty.Pointer t) ≡ functions_fit t
 unfolding functions_fit
 fits-Pointer t = ap (λ t. (tested t).fits) (sym (ty.rolls-Pointer t)) ∙ ap (λ r. r.fits) (tested-made (Ty-F.Pointer t))
 
-fits-Struct : (s : ℕ) → functions_fit (ty.Struct s) ≡ true
+pub fits-Struct : (s : ℕ) → functions_fit (ty.Struct s) ≡ true
 unfolding functions_fit
 fits-Struct s = ap (λ t. (tested t).fits) (sym (ty.rolls-Struct s)) ∙ ap (λ r. r.fits) (tested-made (Ty-F.Struct s))
 
-fits-Int : functions_fit ty.Int ≡ true
+pub fits-Int : functions_fit ty.Int ≡ true
 unfolding functions_fit
 fits-Int = ap (λ t. (tested t).fits) (sym ty.rolls-Int) ∙ ap (λ r. r.fits) (tested-made Ty-F.Int)
 
-fits-Char : functions_fit ty.Char ≡ true
+pub fits-Char : functions_fit ty.Char ≡ true
 unfolding functions_fit
 fits-Char = ap (λ t. (tested t).fits) (sym ty.rolls-Char) ∙ ap (λ r. r.fits) (tested-made Ty-F.Char)
 
-fits-Void : functions_fit ty.Void ≡ true
+pub fits-Void : functions_fit ty.Void ≡ true
 unfolding functions_fit
 fits-Void = ap (λ t. (tested t).fits) (sym ty.rolls-Void) ∙ ap (λ r. r.fits) (tested-made Ty-F.Void)
 
@@ -150,7 +150,7 @@ functions n = record {
   pointer = fits-Pointer;
   element = λ t bound fits. sym (fits-Array t bound) ∙ fits;
   array = λ t bound fits allowed. fits-Array t bound ∙ fits;
-  function = fits-Function;
+  as_type = fits-Function;
   made = made-fits;
   result = λ f fits. (said f fits).result_fits;
 }

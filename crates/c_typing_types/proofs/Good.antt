@@ -44,7 +44,7 @@ pub record Good : Type 0 where
   pub pointer : (t : Ty) → good (ty.Pointer t) ≡ good t
   pub element : (t : Ty) (bound : ℕ) → good (ty.Array t bound) ≡ true → good t ≡ true
   pub array : (t : Ty) (bound : ℕ) → good t ≡ true → (free || nat_le 1 bound) ≡ true → good (ty.Array t bound) ≡ true
-  pub function : (f : FnTy) → good (ty.Function f) ≡ good_function f
+  pub as_type : (f : FnTy) → good (ty.Function f) ≡ good_function f
   pub made :
       (t : Ty) (ts : List Ty)
       → good t ≡ true
@@ -92,7 +92,7 @@ module _ (g : Good) where
   pointer-fine t fine = g.pointer t ∙ fine
 
   pub function_type-fine : (f : FnTy) → FunctionFine g f → Fine g (ty.Function f)
-  function_type-fine f fine = g.function f ∙ fine
+  function_type-fine f fine = g.as_type f ∙ fine
 
   void_pointer-fine : ParamFine g void_pointer
   void_pointer-fine = (pointer-fine ty.Void g.void, pointer-scalar ty.Void)
@@ -155,7 +155,7 @@ module _ (g : Good) where
   function_at-fine : (o : Outer) (f : FnTy) → function_at o ≡ Some f → g.good (roll-Ty o) ≡ true → FunctionFine g f
   function_at-fine (Ty-F.Function h) f is fine =
       let same : h ≡ f = cc in
-      subst (FunctionFine g) same (sym (g.function h) ∙ ap g.good (sym (ty.rolls-Function h)) ∙ fine)
+      subst (FunctionFine g) same (sym (g.as_type h) ∙ ap g.good (sym (ty.rolls-Function h)) ∙ fine)
   function_at-fine _ f is fine = cc
 
   pub called-fine : (t : Ty) (f : FnTy) → function_of t ≡ Some f → Fine g t → FunctionFine g f

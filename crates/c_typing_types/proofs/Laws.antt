@@ -21,7 +21,7 @@ pub functions-declarable : FunctionsAreDeclarable
 unfolding called_type value_type
 functions-declarable = record {
   types = λ s t is. (source-passes (functions (length t.structs)) s t is refl (le_refl (length t.structs))).items;
-  function = λ f fits. declarable f (sym ((functions 0).function f) ∙ fits);
+  function = λ f fits. declarable f (sym ((functions 0).as_type f) ∙ fits);
   callee = λ x f fits is. declarable f (callee-fine (functions 0) (value_type x) f (decay-fine (functions 0) (type_of x) fits) is);
 }
 

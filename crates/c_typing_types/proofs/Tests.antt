@@ -11,22 +11,22 @@ use Rattle.c_types.specs.Sound.{function_names_below, function_step, names_below
 use Rattle.c_typing_types.specs.Types.{bounds_step, function_has_bounds, has_bounds}
 use Rattle.c_typing_types.proofs.Good.{Good, both, both_true}
 
-all-pass : (test : Ty → Bool) (ts : List Ty) → AllByRecursion (λ u. (test u ≡ true) × (is_scalar u ≡ true)) ts → list_all (λ b. b) (map test ts) ≡ true
+pub all-pass : (test : Ty → Bool) (ts : List Ty) → AllByRecursion (λ u. (test u ≡ true) × (is_scalar u ≡ true)) ts → list_all (λ b. b) (map test ts) ≡ true
 all-pass test [] all = refl
 all-pass test (t ∷ ts) all = both_true (test t) (list_all (λ b. b) (map test ts)) all.0.0 (all-pass test ts all.1)
 
 -- ---- structs
 
 module _ (n : ℕ) where
-  names-made : (y : Outer) → names_below n (roll-Ty y) ≡ names_below_step n (map-Ty Ty FnTy Bool Bool (names_below n) (function_names_below n) y)
+  pub names-made : (y : Outer) → names_below n (roll-Ty y) ≡ names_below_step n (map-Ty Ty FnTy Bool Bool (names_below n) (function_names_below n) y)
   unfolding names_below function_names_below
   names-made y = fold-roll-Ty Bool Bool (names_below_step n) function_step y
 
-  names-parts : (y : FnTy-F Ty FnTy) → function_names_below n (roll-FnTy y) ≡ (names_below n y.result && list_all (λ b. b) (map (names_below n) y.params))
+  pub names-parts : (y : FnTy-F Ty FnTy) → function_names_below n (roll-FnTy y) ≡ (names_below n y.result && list_all (λ b. b) (map (names_below n) y.params))
   unfolding names_below function_names_below
   names-parts y = fold-roll-FnTy Bool Bool (names_below_step n) function_step y
 
-  names-Array : (t : Ty) (bound : ℕ) → names_below n (ty.Array t bound) ≡ names_below n t
+  pub names-Array : (t : Ty) (bound : ℕ) → names_below n (ty.Array t bound) ≡ names_below n t
   names-Array t bound = ap (names_below n) (sym (ty.rolls-Array t bound)) ∙ names-made (Ty-F.Array t bound)
 
   abbrev pub names : Good
@@ -42,7 +42,7 @@ module _ (n : ℕ) where
     pointer = λ t. ap (names_below n) (sym (ty.rolls-Pointer t)) ∙ names-made (Ty-F.Pointer t);
     element = λ t bound fine. sym (names-Array t bound) ∙ fine;
     array = λ t bound fine allowed. names-Array t bound ∙ fine;
-    function = λ f. ap (names_below n) (sym (ty.rolls-Function f)) ∙ names-made (Ty-F.Function f);
+    as_type = λ f. ap (names_below n) (sym (ty.rolls-Function f)) ∙ names-made (Ty-F.Function f);
     made = λ t ts fine result all few. names-parts (record { result = t; params = ts }) ∙ both_true (names_below n t) (list_all (λ b. b) (map (names_below n) ts)) fine (all-pass (names_below n) ts all);
     result = λ f fine. (both (names_below n (out-FnTy f).result) (list_all (λ b. b) (map (names_below n) (out-FnTy f).params)) (sym (names-parts (out-FnTy f)) ∙ ap (function_names_below n) (roll-out-FnTy f) ∙ fine)).0;
   }
@@ -53,11 +53,11 @@ pub bounds-made : (y : Outer) → has_bounds (roll-Ty y) ≡ bounds_step (map-Ty
 unfolding has_bounds function_has_bounds
 bounds-made y = fold-roll-Ty Bool Bool bounds_step function_step y
 
-bounds-parts : (y : FnTy-F Ty FnTy) → function_has_bounds (roll-FnTy y) ≡ (has_bounds y.result && list_all (λ b. b) (map has_bounds y.params))
+pub bounds-parts : (y : FnTy-F Ty FnTy) → function_has_bounds (roll-FnTy y) ≡ (has_bounds y.result && list_all (λ b. b) (map has_bounds y.params))
 unfolding has_bounds function_has_bounds
 bounds-parts y = fold-roll-FnTy Bool Bool bounds_step function_step y
 
-bounds-Array : (t : Ty) (bound : ℕ) → has_bounds (ty.Array t bound) ≡ (has_bounds t && nat_le 1 bound)
+pub bounds-Array : (t : Ty) (bound : ℕ) → has_bounds (ty.Array t bound) ≡ (has_bounds t && nat_le 1 bound)
 bounds-Array t bound = ap has_bounds (sym (ty.rolls-Array t bound)) ∙ bounds-made (Ty-F.Array t bound)
 
 abbrev pub bounds : ℕ → Good
@@ -73,7 +73,7 @@ bounds n = record {
   pointer = λ t. ap has_bounds (sym (ty.rolls-Pointer t)) ∙ bounds-made (Ty-F.Pointer t);
   element = λ t bound fine. (both (has_bounds t) (nat_le 1 bound) (sym (bounds-Array t bound) ∙ fine)).0;
   array = λ t bound fine allowed. bounds-Array t bound ∙ both_true (has_bounds t) (nat_le 1 bound) fine allowed;
-  function = λ f. ap has_bounds (sym (ty.rolls-Function f)) ∙ bounds-made (Ty-F.Function f);
+  as_type = λ f. ap has_bounds (sym (ty.rolls-Function f)) ∙ bounds-made (Ty-F.Function f);
   made = λ t ts fine result all few. bounds-parts (record { result = t; params = ts }) ∙ both_true (has_bounds t) (list_all (λ b. b) (map has_bounds ts)) fine (all-pass has_bounds ts all);
   result = λ f fine. (both (has_bounds (out-FnTy f).result) (list_all (λ b. b) (map has_bounds (out-FnTy f).params)) (sym (bounds-parts (out-FnTy f)) ∙ ap function_has_bounds (roll-out-FnTy f) ∙ fine)).0;
 }

@@ -92,7 +92,7 @@ module _ (count : ℕ) (defs : List StructDef) (fine : StructsFine (bounds count
   members-positive of_struct structs (m ∷ ms) all = sum-positive (sized of_struct m.ty) (map (λ m. sized of_struct m.ty) ms) (sized-positive of_struct structs m.ty all.0.0)
 
   body-positive : (of_struct : ℕ → Option ℕ) → ((s : ℕ) → Positive (of_struct s)) → (o : Option (List Member)) → BodyFine (bounds count) o → Positive (option_and_then (λ ms. body_units of_struct ms) o)
-  body-positive of_struct structs None all n is = cc
+  body-positive of_struct structs None all = none-positive
   body-positive of_struct structs (Some ms) all = members-positive of_struct structs ms all
 
   body-fine : (o : Option StructDef) (s : ℕ) → slice_get defs s ≡ o → BodyFine (bounds count) (option_and_then (λ d. d.members) o)
@@ -101,7 +101,7 @@ module _ (count : ℕ) (defs : List StructDef) (fine : StructsFine (bounds count
 
   struct-positive : (depth s : ℕ) → Positive (struct_units depth defs s)
   unfolding struct_units
-  struct-positive zero s n is = cc
+  struct-positive zero s = none-positive
   struct-positive (suc depth) s = body-positive (struct_units depth defs) (struct-positive depth) (body_of defs s) (body-fine (slice_get defs s) s refl)
 
   pub units-positive : (t : Ty) → has_bounds t ≡ true → Positive (exact_units defs t)
