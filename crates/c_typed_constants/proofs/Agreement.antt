@@ -1,9 +1,7 @@
 -- The constant of an expression is what is answered of it, form by form.
-use Rattle.std.proofs.Common.{◌≡◌, ◌∙◌, ◌↔◌, ℕ, ℤ, pos, Bool, true, false, List, [], ◌∷◌, map, Ok, Err, Result, refl, ap, sym, subst}
-use Rattle.c_types.specs.declared.error.LayoutRefusal.{LayoutRefusal}
+use Rattle.std.proofs.Common.{◌≡◌, ◌∙◌, ℕ, ℤ, pos, Bool, List, [], ◌∷◌, map, Ok, Err, refl, ap, sym, subst}
 use Rattle.c_types.specs.declared.ty.Ty.{Ty, out-Ty}
 use Rattle.c_types.specs.Units.{units_of}
-use Rattle.c_tree.specs.declared.expression.Expr.{Expr}
 use Rattle.c_tree.specs.Fold.{Pass, fold}
 use Rattle.c_tree.specs.inner.FoldEquations as equations
 use Rattle.c_const.specs.declared.error.ConstRefusal.TheVariants.{Divide}
@@ -18,7 +16,7 @@ use Rattle.c_typed.specs.Erased.{erased_expr}
 use Rattle.c_operators.specs.Constants.{of_binary, of_cast, of_conditional, of_unary}
 use Rattle.c_operators.specs.Operators.{FormLayer, constant_of, form_of}
 use Rattle.c_typed_rows.specs.Contexts.{Context}
-use Rattle.c_typed_rows.specs.Expressions.{ExprLevel, FormRow, IsTypedExpr, NodeLevel}
+use Rattle.c_typed_rows.specs.Expressions.{FormRow, IsTypedExpr, NodeLevel}
 use Rattle.c_typed_constants.specs.Theorems.{ConstantsAgree}
 use Rattle.c_typed_constants.specs.Words.{FormReads, IsRead, WordsAreRead, word_tree}
 use Rattle.c_typed_constants.proofs.Answers.{Agrees, Of, binary-agrees, cast-agrees, conditional-agrees, never-agrees, other-agrees, unary-agrees}

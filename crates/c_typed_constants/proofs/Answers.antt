@@ -1,5 +1,5 @@
 -- The answers of each operator are those of its constants.
-use Rattle.std.proofs.Common.{◌≡◌, ◌∙◌, ℤ, pos, Bool, true, false, not, ◌&&◌, ◌||◌, if◌then◌else◌, List, [], ◌∷◌, Option, Some, None, Result, Ok, Err, refl, ap, sym, subst}
+use Rattle.std.proofs.Common.{◌≡◌, ◌∙◌, ℤ, pos, Bool, true, false, not, ◌&&◌, ◌||◌, if◌then◌else◌, List, [], ◌∷◌, Option, Some, None, Ok, Err, refl, ap, sym, subst}
 use Rattle.c_types.specs.declared.ty.Ty.{Ty, out-Ty}
 use Rattle.c_types.specs.declared.ty.Ty.TheOpen.{Ty-F}
 use Rattle.c_types.specs.Kinds.{Outer}
@@ -8,8 +8,7 @@ use Rattle.c_tree.specs.declared.operator.BinaryOperator.TheVariants as op
 use Rattle.c_tree.specs.declared.operator.UnaryOperator.{UnaryOperator}
 use Rattle.c_tree.specs.declared.operator.UnaryOperator.TheVariants as sign
 use Rattle.c_const.specs.declared.error.ConstRefusal.{ConstRefusal}
-use Rattle.c_const.specs.declared.error.ConstRefusal.TheVariants.{Divide, NotConstant}
-use Rattle.c_const.specs.Constant as answer
+use Rattle.c_const.specs.declared.error.ConstRefusal.TheVariants.{Divide}
 use Rattle.c_const.specs.Constant.{Answer, ◌>>=◌, binary, cast, conditional, converted, divided, evaluates_second, other_form, unary, unary_value}
 use Rattle.c_const.specs.Values.{as_char, complemented, computed, is_zero, negated, truth}
 use Rattle.c_typed.specs.declared.entity.Constant.{Constant}
@@ -293,7 +292,7 @@ conditional-agrees (constant.Value x) (constant.Value y) (constant.Value z) t a 
 -- ---- forms that no constant has
 
 other-none : (es : List (Bool → Answer ℤ)) (live : Bool) → NoValue (other_form es live)
-other-none [] live u is = cc
+other-none [] live = λ u is. cc
 other-none (e ∷ es) live = none_then (e live) (λ x. other_form es live) (λ x. other-none es live)
 
 pub other-agrees : (es : List (Bool → Answer ℤ)) → Of constant.Other (other_form es)

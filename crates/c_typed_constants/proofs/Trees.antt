@@ -1,5 +1,5 @@
 -- The tree of a typed expression by its form, and what stands in an expression with what holds of it.
-use Rattle.std.proofs.Common.{◌≡◌, ◌∙◌, List, map, refl, ap, sym, subst}
+use Rattle.std.proofs.Common.{◌≡◌, ◌∙◌, map, ap, sym, subst}
 use Rattle.c_tree.specs.declared.expression.Expr.{Expr}
 use Rattle.c_tree.specs.declared.expression.Expr.TheVariants as expr
 use Rattle.c_typed.specs.declared.expression.TypedDirect.{TypedDirect, every-TypedDirect}
@@ -11,7 +11,7 @@ use Rattle.c_typed.specs.declared.expression.TypedSuffix.{TypedSuffix, every-Typ
 use Rattle.c_typed.specs.declared.expression.Declared.{Declared, every-Declared}
 use Rattle.c_typed.specs.declared.expression.TypedAbstractDeclarator.{TypedAbstractDeclarator, every-TypedAbstractDeclarator}
 use Rattle.c_typed.specs.declared.expression.TypedDeclarator.{TypedDeclarator, every-TypedDeclarator}
-use Rattle.c_typed.specs.declared.expression.TypedExpr.{TypedExpr, every-TypedExpr, every_held-TypedExpr, every_here-TypedExpr, fold_out-TypedExpr, ind-TypedExpr, map-TypedExpr, out-TypedExpr, out-roll-TypedExpr, roll-TypedExpr}
+use Rattle.c_typed.specs.declared.expression.TypedExpr.{TypedExpr, every-TypedExpr, every_held-TypedExpr, every_here-TypedExpr, fold_out-TypedExpr, ind-TypedExpr, out-TypedExpr, out-roll-TypedExpr, roll-TypedExpr}
 use Rattle.c_typed.specs.declared.expression.TypedMemberDecl.{TypedMemberDecl, every-TypedMemberDecl}
 use Rattle.c_typed.specs.declared.expression.TypedTypeWord.{TypedTypeWord, every-TypedTypeWord}
 use Rattle.c_typed.specs.declared.expression.TypedDirect.TheOpen.{TypedExpr-F, TypedForm-F}

@@ -1,5 +1,5 @@
 -- The walks of declarations and of what defines types find types that pass.
-use Rattle.std.proofs.Common.{◌≡◌, ◌∙◌, ◌+◌, ℕ, suc, Bool, true, false, ◌||◌, ◌&&◌, nat_le, if◌then◌else◌, List, [], ◌∷◌, ◌++◌, length, map, Option, Some, None, le-leb, refl, ap, sym, subst, arith}
+use Rattle.std.proofs.Common.{◌≡◌, ◌+◌, ℕ, Bool, true, false, ◌||◌, ◌&&◌, nat_le, if◌then◌else◌, List, [], ◌∷◌, length, map, Option, Some, None, le-leb, refl, subst, arith}
 use Rattle.std.specs.List.{AllByRecursion, list_all}
 use Rattle.c_layers.specs.declared.layer.Shape.{Shape}
 use Rattle.c_layers.specs.declared.layer.Shape.TheVariants as shape
@@ -15,9 +15,7 @@ use Rattle.c_tree.specs.declared.statement.Init.{Init, out-Init}
 use Rattle.c_tree.specs.declared.statement.Init.TheOpen.{Init-F}
 use Rattle.c_tree.specs.declared.statement.InitDeclarator.{InitDeclarator}
 use Rattle.c_typed.specs.declared.entity.BuiltIn.{BuiltIn}
-use Rattle.c_typed.specs.declared.entity.Entity.{Entity}
 use Rattle.c_typed.specs.declared.entity.Entity.TheVariants as entity
-use Rattle.c_typed.specs.declared.statement.TypedInit.{TypedInit}
 use Rattle.c_typed.specs.declared.unit.Local.{Local}
 use Rattle.c_scope.specs.declared.rule.Rule.TheVariants as broken
 use Rattle.c_scope.specs.declared.scopes.Meaning.TheVariants as means
@@ -27,19 +25,19 @@ use Rattle.c_scope.specs.BuiltIns.{Name, built_in_named}
 use Rattle.c_scope.specs.Declarations.{is_free, may_be_declared}
 use Rattle.c_scope.specs.Definitions.{bind_function, declare_function, declare_function_by, declare_variable, is_bound_here, make_known, make_known_by}
 use Rattle.c_scope.specs.Scopes.{bind, bound_in, known_function}
-use Rattle.c_scope.specs.Walk.{◌>>◌, each, found, pure, rule}
+use Rattle.c_scope.specs.Walk.{◌>>◌, each, pure}
 use Rattle.c_expr_typing.specs.declared.layered.LayeredDeclarator.{LayeredDeclarator}
 use Rattle.c_expr_typing.specs.Trees.{declared}
 use Rattle.c_typing.specs.Declarations.{allowed, bounded, closed, completed, declare, declare_all, declare_by, declare_type, declared_type, given_at, given_bound, named_type, optional_init, shaped_name, shaped_type, text_bound, type_rules, typed_decl, typed_init_declarator, typed_type}
 use Rattle.c_typing.specs.Initialisers.{text_of}
 use Rattle.c_typing_types.specs.Filled.{decl_fills, init_fills, init_fills_at, optional_fills, spec_fills}
 use Rattle.c_typing_types.specs.Types.{DeclTypes, DeclaredTypes, InitDeclaratorTypes, OptionalInitTypes}
-use Rattle.c_typing_types.proofs.Claimed.{ReadyDeclarator, ReadySpec}
+use Rattle.c_typing_types.proofs.Claimed.{ReadyDeclarator}
 use Rattle.c_typing_types.proofs.Good.{Allowed, Fine, FunctionFine, Good, both, called-fine}
 use Rattle.c_typing_types.proofs.Initialisers.{init-finds}
 use Rattle.c_typing_types.proofs.Known.{bound-fine, last-held}
 use Rattle.c_typing_types.proofs.Shaped.{ShapeFine, limited-fine, shaped-fine, whole-fine}
-use Rattle.c_typing_types.proofs.Steps.{Fit, Goes, after, changed, ends, finds, longer-same, rule-goes, ruled, under, weaker}
+use Rattle.c_typing_types.proofs.Steps.{Goes, after, changed, ends, finds, longer-same, rule-goes, ruled, under}
 use Rattle.c_typing_types.proofs.TypedParts as parts
 use Rattle.c_typing_types.proofs.Walks.{declarator-finds, spec-finds}
 

@@ -1,12 +1,11 @@
 -- The walk of an expression finds types that pass, where the walks of its parts do.
-use Rattle.std.proofs.Common.{◌≡◌, List, [], ◌∷◌, map, refl, sym, subst}
+use Rattle.std.proofs.Common.{List, [], ◌∷◌, map, sym, subst}
 use Rattle.std.specs.List.{AllByRecursion}
 use Rattle.c_tree.specs.declared.expression.Direct.TheOpen.{Expr-F}
 use Rattle.c_tree.specs.declared.expression.Expr.{Expr, roll-Expr}
 use Rattle.c_tree.specs.declared.expression.TypeWord.{TypeWord}
 use Rattle.c_tree.specs.declared.operator.BinaryOperator.TheVariants as op
 use Rattle.c_tree.specs.Fold.{Node, Plain, with_results}
-use Rattle.c_typed.specs.declared.expression.TypedExpr.{TypedExpr}
 use Rattle.c_typed.specs.declared.expression.TypedForm.TheVariants as form
 use Rattle.c_scope.specs.declared.world.World.{World}
 use Rattle.c_rules.specs.declared.place.Place.{Place}
@@ -17,7 +16,7 @@ use Rattle.c_typing_types.proofs.Good.{Good}
 use Rattle.c_typing_types.proofs.Nodes.{Held, bare_expr, walked-expr}
 use Rattle.c_typing_types.proofs.Rules as rules
 use Rattle.c_typing_types.proofs.Rules.{Ready, ReadyWord}
-use Rattle.c_typing_types.proofs.Steps.{Goes, after, ends, under, weaker}
+use Rattle.c_typing_types.proofs.Steps.{Goes, after, ends, under}
 use Rattle.c_typing_types.proofs.TypedParts as parts
 
 module _ (g : Good) where

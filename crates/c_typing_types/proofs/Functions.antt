@@ -1,5 +1,5 @@
 -- The test of the functions in a type is one that declarators decide, and what it says of a function.
-use Rattle.std.proofs.Common.{◌≡◌, ◌∙◌, ◌≤◌, ℕ, suc, Bool, true, false, ◌&&◌, ◌||◌, nat_le, List, [], ◌∷◌, length, map, Option, Some, le-leb, leb-true, refl, ap, sym, subst}
+use Rattle.std.proofs.Common.{◌≡◌, ◌∙◌, ◌≤◌, ℕ, suc, Bool, true, ◌&&◌, ◌||◌, nat_le, List, [], ◌∷◌, length, map, le-leb, leb-true, refl, ap, sym, subst}
 use Rattle.std.specs.List.{AllByRecursion, list_all}
 use Rattle.c_layers.specs.Shapes.{function}
 use Rattle.c_types.specs.declared.ty.FnTy.{FnTy, fold-roll-FnTy, map-FnTy, out-FnTy, roll-FnTy, roll-out-FnTy}

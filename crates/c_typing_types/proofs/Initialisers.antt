@@ -1,5 +1,5 @@
 -- The walk of an initialiser finds types that pass.
-use Rattle.std.proofs.Common.{◌≡◌, ◌||◌, ℕ, suc, Bool, true, not, nat_lt, List, [], ◌∷◌, length, map, Option, Some, None, refl, ap, sym, subst}
+use Rattle.std.proofs.Common.{◌≡◌, ◌||◌, ℕ, suc, Bool, not, nat_lt, List, [], ◌∷◌, length, map, Option, Some, None, refl, sym, subst}
 use Rattle.std.specs.List.{AllByRecursion}
 use Rattle.std.specs.Option.{option_and_then}
 use Rattle.c_types.specs.declared.ty.Ty.{Ty}
@@ -12,7 +12,7 @@ use Rattle.c_typed.specs.declared.statement.TypedInit.TheOpen.{TypedInit-F}
 use Rattle.c_typed.specs.declared.statement.TypedInit.TheVariants as init
 use Rattle.c_scope.specs.declared.rule.Rule.TheVariants as broken
 use Rattle.c_scope.specs.declared.world.World.{World}
-use Rattle.c_scope.specs.Walk.{each, rule}
+use Rattle.c_scope.specs.Walk.{each}
 use Rattle.c_operators.specs.Operators.{converts, takes_value}
 use Rattle.c_rules.specs.declared.place.Place.TheVariants.{Value}
 use Rattle.c_typing.specs.Initialisers.{OfInit, braces, char_bound, given_by, given_text, given_value, has_parts, init_step, leaf_rules, one_part, part_of, parts_from, parts_rule, text_of, typed_init, value_rules}

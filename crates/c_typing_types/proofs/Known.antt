@@ -1,5 +1,5 @@
 -- What is known of names, members, functions and locals passes, where all that is known does, also behind a change.
-use Rattle.std.proofs.Common.{◌≡◌, ◌∙◌, ℕ, zero, suc, Bool, true, false, if◌then◌else◌, List, [], ◌∷◌, ◌++◌, Option, Some, None, slice_get, refl, ap, sym, subst}
+use Rattle.std.proofs.Common.{◌≡◌, ℕ, zero, suc, Bool, true, false, if◌then◌else◌, List, [], ◌∷◌, ◌++◌, Option, Some, None, slice_get, refl, subst}
 use Rattle.std.specs.List.{AllByRecursion}
 use Rattle.std.specs.Option.{option_and_then, option_map, option_or}
 use Rattle.std.specs.Str.{bytes_eq}
@@ -9,19 +9,18 @@ use Rattle.c_types.specs.declared.structs.StructDef.{StructDef}
 use Rattle.c_types.specs.declared.ty.FnTy.{FnTy}
 use Rattle.c_types.specs.declared.ty.Ty.{Ty}
 use Rattle.c_types.specs.Kinds.{function_of, struct_of, target_of}
-use Rattle.c_types.specs.Structs.{body_of, member_named, with_body, with_tag}
+use Rattle.c_types.specs.Structs.{member_named, with_body, with_tag}
 use Rattle.c_types.specs.Units.{has_units}
 use Rattle.c_typed.specs.declared.unit.Local.{Local}
 use Rattle.c_scope.specs.declared.scopes.Binding.{Binding}
 use Rattle.c_scope.specs.declared.scopes.Meaning.{Meaning}
 use Rattle.c_scope.specs.declared.world.KnownFunction.{KnownFunction}
-use Rattle.c_scope.specs.declared.world.World.{World}
 use Rattle.c_scope.specs.BuiltIns.{Name}
 use Rattle.c_scope.specs.Definitions.{marked}
 use Rattle.c_scope.specs.Scopes.{bound_in, known_function, meaning_here, meaning_of, with_function}
 use Rattle.c_rules.specs.Rules.{addressed_at, member_at, member_in, member_of, numbered}
 use Rattle.c_typing_types.proofs.Good.{Fine, FunctionFine, Good, called-fine, target-fine}
-use Rattle.c_typing_types.proofs.Steps.{BodyFine, Fit, FunctionsFine, LocalsFine, MeaningFine, MembersFine, ScopesFine, StructsFine}
+use Rattle.c_typing_types.proofs.Steps.{BodyFine, FunctionsFine, LocalsFine, MeaningFine, MembersFine, ScopesFine, StructsFine}
 
 -- ---- lists
 

@@ -1,6 +1,5 @@
 -- Each type of a source passes the tests.
-use Rattle.std.proofs.Common.{◌≡◌, ◌∙◌, length, refl, sym, le_refl}
-use Rattle.c_types.specs.declared.ty.Ty.TheVariants as ty
+use Rattle.std.proofs.Common.{◌∙◌, length, refl, sym, le_refl}
 use Rattle.c_operators.specs.Operators.{type_of, value_type}
 use Rattle.c_rules.specs.Rules.{called_type}
 use Rattle.c_typing_types.specs.Theorems.{BoundsAreGiven, FunctionsAreDeclarable, TypesNameStructs}

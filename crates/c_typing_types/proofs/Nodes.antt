@@ -1,15 +1,15 @@
 -- What holds of each tree, where it holds of a node whose parts have it; and the walk of a node by those of its parts.
 use Rattle.std.proofs.Common.{◌≡◌, subst}
-use Rattle.c_tree.specs.declared.expression.Direct.{Direct, roll-Direct, map-Direct, fold-roll-Direct, ind-Direct}
+use Rattle.c_tree.specs.declared.expression.Direct.{Direct, roll-Direct, map-Direct, fold-roll-Direct}
 use Rattle.c_tree.specs.declared.expression.Expr.{Expr, roll-Expr, map-Expr, fold-roll-Expr, ind-Expr}
-use Rattle.c_tree.specs.declared.expression.Param.{Param, roll-Param, map-Param, fold-roll-Param, ind-Param}
-use Rattle.c_tree.specs.declared.expression.Params.{Params, roll-Params, map-Params, fold-roll-Params, ind-Params}
+use Rattle.c_tree.specs.declared.expression.Param.{Param, roll-Param, map-Param, fold-roll-Param}
+use Rattle.c_tree.specs.declared.expression.Params.{Params, roll-Params, map-Params, fold-roll-Params}
 use Rattle.c_tree.specs.declared.expression.Spec.{Spec, roll-Spec, map-Spec, fold-roll-Spec, ind-Spec}
-use Rattle.c_tree.specs.declared.expression.Suffix.{Suffix, roll-Suffix, map-Suffix, fold-roll-Suffix, ind-Suffix}
-use Rattle.c_tree.specs.declared.expression.AbstractDeclarator.{AbstractDeclarator, roll-AbstractDeclarator, map-AbstractDeclarator, fold-roll-AbstractDeclarator, ind-AbstractDeclarator}
+use Rattle.c_tree.specs.declared.expression.Suffix.{Suffix, roll-Suffix, map-Suffix, fold-roll-Suffix}
+use Rattle.c_tree.specs.declared.expression.AbstractDeclarator.{AbstractDeclarator, roll-AbstractDeclarator, map-AbstractDeclarator, fold-roll-AbstractDeclarator}
 use Rattle.c_tree.specs.declared.expression.Declarator.{Declarator, roll-Declarator, map-Declarator, fold-roll-Declarator, ind-Declarator}
-use Rattle.c_tree.specs.declared.expression.MemberDecl.{MemberDecl, roll-MemberDecl, map-MemberDecl, fold-roll-MemberDecl, ind-MemberDecl}
-use Rattle.c_tree.specs.declared.expression.TypeWord.{TypeWord, roll-TypeWord, map-TypeWord, fold-roll-TypeWord, ind-TypeWord}
+use Rattle.c_tree.specs.declared.expression.MemberDecl.{MemberDecl, roll-MemberDecl, map-MemberDecl, fold-roll-MemberDecl}
+use Rattle.c_tree.specs.declared.expression.TypeWord.{TypeWord, roll-TypeWord, map-TypeWord, fold-roll-TypeWord}
 use Rattle.c_tree.specs.declared.expression.Direct.TheOpen.{Direct-F, Expr-F, Param-F, Params-F, Spec-F, Suffix-F, AbstractDeclarator-F, Declarator-F, MemberDecl-F, TypeWord-F}
 use Rattle.c_tree.specs.Fold.{Node, Plain, fold}
 use Rattle.c_expr_typing.specs.Trees.{abstract_step, declarator_step, direct_step, expr_step, member_step, param_step, params_step, spec_step, suffix_step, type_word_step, walked}

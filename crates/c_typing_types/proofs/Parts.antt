@@ -20,7 +20,6 @@ use Rattle.c_tree.specs.Fold.{Node, Plain}
 use Rattle.c_types.specs.declared.structs.Member.{Member}
 use Rattle.c_types.specs.declared.structs.StructDef.{StructDef}
 use Rattle.c_types.specs.declared.ty.Ty.{Ty}
-use Rattle.c_types.specs.declared.ty.Ty.TheVariants as ty
 use Rattle.c_types.specs.Kinds.{is_scalar}
 use Rattle.c_types.specs.Sound.{are_members, is_member_type}
 use Rattle.c_types.specs.Structs.{struct_named, with_body, with_tag}
@@ -31,7 +30,7 @@ use Rattle.c_typed.specs.declared.expression.Declared.{Declared}
 use Rattle.c_typed.specs.declared.expression.TypedAbstractDeclarator.{TypedAbstractDeclarator, roll-TypedAbstractDeclarator}
 use Rattle.c_typed.specs.declared.expression.TypedDeclarator.{roll-TypedDeclarator}
 use Rattle.c_typed.specs.declared.expression.TypedDirect.{TypedDirect}
-use Rattle.c_typed.specs.declared.expression.TypedMemberDecl.{TypedMemberDecl, roll-TypedMemberDecl}
+use Rattle.c_typed.specs.declared.expression.TypedMemberDecl.{roll-TypedMemberDecl}
 use Rattle.c_typed.specs.declared.expression.TypedParam.{TypedParam}
 use Rattle.c_typed.specs.declared.expression.TypedParams.{TypedParams}
 use Rattle.c_typed.specs.declared.expression.TypedParams.TheVariants as params
@@ -45,12 +44,12 @@ use Rattle.c_scope.specs.declared.scopes.Meaning.TheVariants as means
 use Rattle.c_scope.specs.declared.world.World.{World}
 use Rattle.c_scope.specs.BuiltIns.{Name}
 use Rattle.c_scope.specs.Declarations.{bind_parameter, define, is_new_member, is_undefined, may_be_parameter, member_rules, member_type, most_parameters, parameter, word_type}
-use Rattle.c_scope.specs.Scopes.{bind, bound_in, meaning_of, most_tags, new_tag, tag, tag_by, within}
-use Rattle.c_scope.specs.Walk.{Walk, each_pair, found, maybe, rule}
+use Rattle.c_scope.specs.Scopes.{bind, bound_in, meaning_of, most_tags, new_tag, tag, tag_by}
+use Rattle.c_scope.specs.Walk.{Walk, each_pair, maybe}
 use Rattle.c_rules.specs.declared.place.Place.TheVariants.{Value}
 use Rattle.c_operators.specs.Operators.{constant_of}
 use Rattle.c_expr_typing.specs.declared.layered.LayeredDeclarator.{LayeredDeclarator}
-use Rattle.c_expr_typing.specs.Trees.{Found, OfMember, body_tag, constant_bound, declared, is_bound, layers_inside, member_declarators, members, named_type, one_member, spec_step, struct_spec, tree_inside, type_name, walked}
+use Rattle.c_expr_typing.specs.Trees.{Found, OfMember, body_tag, constant_bound, declared, is_bound, layers_inside, member_declarators, members, named_type, one_member, spec_step, tree_inside, type_name, walked}
 use Rattle.c_typing_types.specs.Filled.{any_declares, are_some, declares, spec_fills, spec_fills_at}
 use Rattle.c_typing_types.specs.Types.{DeclaredTypes, SpecTypes}
 use Rattle.c_typing_types.proofs.Claimed.{FindsAbstract, FindsDeclarator, FindsDirect, FindsMember, FindsParam, FindsParams, FindsSpec, FindsSuffix, FindsTypeWord, ReadyAbstract, ReadyDeclarator, ReadyDirect, ReadyMember, ReadyParam, ReadyParams, ReadySpec, ReadySuffix, claims}
@@ -60,7 +59,7 @@ use Rattle.c_typing_types.proofs.Nodes as nodes
 use Rattle.c_typing_types.proofs.Nodes.{Held}
 use Rattle.c_typing_types.proofs.Rules.{ReadyWord}
 use Rattle.c_typing_types.proofs.Shaped.{LayersFine, ParameterFine, adjusted-fine, layers-joined, shaped-fine, stars-fine, whole-fine}
-use Rattle.c_typing_types.proofs.Steps.{BodyFine, Fit, Goes, Longer, MembersFine, after, changed, each_pair-goes, ends, finds, found-goes, longer-same, never, rule-goes, ruled, under, weaker, within-goes}
+use Rattle.c_typing_types.proofs.Steps.{BodyFine, Goes, MembersFine, after, changed, ends, finds, longer-same, never, rule-goes, ruled, under, within-goes}
 use Rattle.c_typing_types.proofs.TypedParts as parts
 use Rattle.c_typing_types.proofs.TypedParts.{AbstractTypes, DeclaratorTypes, DirectTypes, MemberTypes, ParamTypes, ParamsTypes, SuffixTypes, of_held}
 

@@ -1,5 +1,5 @@
 -- The walk of a source finds types that pass.
-use Rattle.std.proofs.Common.{◌≡◌, ◌∙◌, ◌≤◌, ◌||◌, ◌&&◌, ℕ, suc, Bool, true, false, if◌then◌else◌, List, [], ◌∷◌, length, map, codes, Option, Some, None, Ok, Err, refl, ap, sym, subst, arith, le_refl}
+use Rattle.std.proofs.Common.{◌≡◌, ◌≤◌, ◌||◌, ◌&&◌, ℕ, suc, Bool, true, false, if◌then◌else◌, List, [], ◌∷◌, length, Option, Some, None, Ok, Err, refl, subst, arith}
 use Rattle.std.specs.List.{AllByRecursion, list_all}
 use Rattle.c_layers.specs.declared.layer.Layer.{Layer}
 use Rattle.c_layers.specs.declared.layer.Layer.TheVariants as layer
@@ -17,27 +17,23 @@ use Rattle.c_tree.specs.declared.statement.Item.{Item}
 use Rattle.c_tree.specs.declared.statement.Item.TheVariants as raw_item
 use Rattle.c_tree.specs.declared.statement.Unit.{Unit as Source}
 use Rattle.c_typed.specs.declared.expression.TypedSpec.{TypedSpec}
-use Rattle.c_typed.specs.declared.statement.TypedBlock.{TypedBlock}
-use Rattle.c_typed.specs.declared.unit.Local.{Local}
 use Rattle.c_typed.specs.declared.unit.Typed.{Typed}
-use Rattle.c_typed.specs.declared.unit.TypedFn.{TypedFn}
 use Rattle.c_typed.specs.declared.unit.TypedItem.{TypedItem}
-use Rattle.c_typed.specs.declared.unit.TypedItem.TheVariants as item
 use Rattle.c_scope.specs.declared.rule.Rule.{Rule}
 use Rattle.c_scope.specs.declared.rule.Rule.TheVariants as broken
 use Rattle.c_scope.specs.declared.world.World.{World}
 use Rattle.c_scope.specs.BuiltIns.{Name}
-use Rattle.c_scope.specs.Definitions.{bind_parameters, declare_function, is_main, mark_defined, may_be_defined, own_parameter, own_parameters, undefined_use}
-use Rattle.c_scope.specs.Scopes.{empty, known_function, most_tags}
-use Rattle.c_scope.specs.Walk.{Outcome, Walk, ◌>>◌, each, found, pure, rule}
+use Rattle.c_scope.specs.Definitions.{bind_parameters, mark_defined, may_be_defined, own_parameter, undefined_use}
+use Rattle.c_scope.specs.Scopes.{empty, most_tags}
+use Rattle.c_scope.specs.Walk.{Outcome, ◌>>◌, found}
 use Rattle.c_expr_typing.specs.declared.layered.LayeredDeclarator.{LayeredDeclarator}
 use Rattle.c_expr_typing.specs.Trees.{declared}
 use Rattle.c_typing.specs.Declarations.{typed_type}
-use Rattle.c_typing.specs.Functions.{bind_own, bind_own_by, define_function, defined_type, function_body, function_parts, is_definition, shaped_function, take_locals, typed_function}
+use Rattle.c_typing.specs.Functions.{bind_own, define_function, defined_type, function_body, function_parts, is_definition, shaped_function, take_locals, typed_function}
 use Rattle.c_typing.specs.Sources.{Verdict, at_item, finished_behind, finished_by, function_item, items_behind, typed_item, typed_items, typed_source, typedef_item, with_first}
 use Rattle.c_typing.specs.Statements.{typed_block}
-use Rattle.c_typing_types.specs.Filled.{block_fills, decl_fills, is_filled, item_fills, spec_fills}
-use Rattle.c_typing_types.specs.Types.{BlockTypes, DeclaredTypes, FunctionTypes, ItemTypes, SourceTypes, SpecTypes}
+use Rattle.c_typing_types.specs.Filled.{block_fills, is_filled, item_fills, spec_fills}
+use Rattle.c_typing_types.specs.Types.{BlockTypes, DeclaredTypes, FunctionTypes, ItemTypes, SourceTypes}
 use Rattle.c_typing_types.proofs.Claimed.{ReadyDeclarator, ReadySpec}
 use Rattle.c_typing_types.proofs.Declarations.{decl-goes, free-both, function-goes, type_name-goes, variable-goes}
 use Rattle.c_typing_types.proofs.Good.{Fine, FunctionFine, Good, both, called-fine, function_type-fine}

@@ -1,5 +1,5 @@
 -- Statements each of whose types passes are those whose parts are such.
-use Rattle.std.proofs.Common.{◌≡◌, Bool, List, [], ◌∷◌, map, Option, Some, None, refl, subst}
+use Rattle.std.proofs.Common.{Bool, List, map, Option, Some, None, refl, subst}
 use Rattle.std.specs.List.{AllByRecursion}
 use Rattle.c_types.specs.declared.ty.Ty.{Ty}
 use Rattle.c_typed.specs.declared.statement.TypedBlock.{TypedBlock, every_made-TypedBlock, roll-TypedBlock}

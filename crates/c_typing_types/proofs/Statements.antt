@@ -1,9 +1,9 @@
 -- The walk of a block finds types that pass, where no braces in it are empty or nothing is asked.
-use Rattle.std.proofs.Common.{◌≡◌, ◌∙◌, ◌||◌, ◌&&◌, Bool, true, false, not, List, [], ◌∷◌, map, Option, Some, None, refl, ap, sym, subst}
+use Rattle.std.proofs.Common.{◌≡◌, ◌||◌, Bool, true, false, not, List, [], ◌∷◌, map, Option, Some, None, sym, subst}
 use Rattle.std.specs.List.{AllByRecursion, list_all}
 use Rattle.c_types.specs.declared.ty.Ty.{Ty}
 use Rattle.c_types.specs.Kinds.{is_void}
-use Rattle.c_tree.specs.declared.statement.Block.{Block, fold-Block, fold-roll-Block, ind-Block, map-Block, roll-Block}
+use Rattle.c_tree.specs.declared.statement.Block.{Block, fold-roll-Block, ind-Block, map-Block, roll-Block}
 use Rattle.c_tree.specs.declared.statement.BlockItem.{BlockItem, fold-BlockItem, fold-roll-BlockItem, map-BlockItem, roll-BlockItem}
 use Rattle.c_tree.specs.declared.statement.BlockItem.TheOpen.{Block-F, BlockItem-F, ForLoop-F, Stmt-F}
 use Rattle.c_tree.specs.declared.statement.ForInit.{ForInit}
@@ -17,7 +17,7 @@ use Rattle.c_typed.specs.declared.statement.TypedStmt.{TypedStmt}
 use Rattle.c_typed.specs.declared.statement.TypedStmt.TheVariants as stmt
 use Rattle.c_scope.specs.declared.rule.Rule.TheVariants as broken
 use Rattle.c_scope.specs.declared.world.World.{World}
-use Rattle.c_scope.specs.Walk.{Walk, rule}
+use Rattle.c_scope.specs.Walk.{Walk}
 use Rattle.c_rules.specs.declared.place.Place.TheVariants.{Value}
 use Rattle.c_operators.specs.Operators.{converts, is_scalar_value}
 use Rattle.c_typing.specs.Statements.{block_item_step, block_items, block_step, branches, condition, for_head, for_step, full, jump, optional, optional_condition, return_walked, returned_rules, stmt_step, typed_for_init, walked_statements}

@@ -1,5 +1,5 @@
 -- Walks forward: what is known of the types before a walk is known behind it, and holds of what it finds.
-use Rattle.std.proofs.Common.{◌≡◌, ◌≤◌, ◌||◌, ℕ, Bool, true, false, IsTrue, List, [], ◌∷◌, length, map, Option, Some, None, Ok, Err, refl, ap, subst, arith, le_refl}
+use Rattle.std.proofs.Common.{◌≡◌, ◌≤◌, ◌||◌, ℕ, Bool, true, false, IsTrue, List, [], ◌∷◌, length, map, Option, Some, None, Ok, Err, refl, subst, arith, le_refl}
 use Rattle.std.specs.List.{AllByRecursion}
 use Rattle.c_types.specs.declared.structs.Member.{Member}
 use Rattle.c_types.specs.declared.structs.StructDef.{StructDef}
@@ -11,7 +11,7 @@ use Rattle.c_scope.specs.declared.scopes.Meaning.TheVariants as means
 use Rattle.c_scope.specs.declared.world.KnownFunction.{KnownFunction}
 use Rattle.c_scope.specs.declared.world.World.{World}
 use Rattle.c_scope.specs.Scopes.{enter, leave, most_tags, outer, within}
-use Rattle.c_scope.specs.Walk.{Outcome, Walk, and_then, each, each_pair, found, rule}
+use Rattle.c_scope.specs.Walk.{Outcome, Walk, and_then, each, found, rule}
 use Rattle.c_typing_types.specs.Filled.{are_some}
 use Rattle.c_typing_types.proofs.Good.{Fine, FunctionFine, Good}
 
@@ -105,10 +105,6 @@ module _ (g : Good) where
   pub under : {A : Type 0} {H K : Type 0} {Q : A → Type 0} {w : World} (o : Outcome (A × World)) → (K → H) → Goes g H w o Q → Goes g K w o Q
   under o more goes = record { found = λ r is. let h = goes.found r is in (h.0, λ few known fit. h.1 few (more known) fit) }
 
-  -- where less is asked
-  pub weaker : {A : Type 0} {K : Type 0} {P Q : A → Type 0} {w : World} (o : Outcome (A × World)) → ((a : A) → K → P a → Q a) → Goes g K w o P → Goes g K w o Q
-  weaker o less goes = record { found = λ r is. let h = goes.found r is in (h.0, λ few known fit. let n = h.1 few known fit in (n.0, less r.0 known n.1)) }
-
   pub ruled : {A : Type 0} {K : Type 0} {Q : A → Type 0} {w : World} (r : Rule) (b : Bool) (f : Unit {0} → Walk A)
       → (IsTrue b → Goes g K w (f tt w) Q) → Goes g K w (and_then (rule r b w) f) Q
   ruled r true f goes = goes refl
@@ -161,11 +157,3 @@ module _ (g : Good) where
       after (p h w) _ (goes h w) (λ x v.
       after (each (map p hs) v) _ (under _ (λ known. known.0) (each-goes Q p goes hs v)) (λ xs u.
       ends (λ known fit. (known.0.1, known.1))))
-
-  pub each_pair-goes : {A B H : Type 0} {K : Type 0} (Q : A → Type 0) (R : B → Type 0) (p : H → Walk (A × B)) → ((h : H) (w : World) → Goes g K w (p h w) (λ x. Q x.0 × R x.1))
-      → (hs : List H) (w : World) → Goes g K w (each_pair (map p hs) w) (λ xs. AllByRecursion Q xs.0 × AllByRecursion R xs.1)
-  each_pair-goes Q R p goes [] w = ends (λ known fit. (tt, tt))
-  each_pair-goes Q R p goes (h ∷ hs) w =
-      after (p h w) _ (goes h w) (λ x v.
-      after (each_pair (map p hs) v) _ (under _ (λ known. known.0) (each_pair-goes Q R p goes hs v)) (λ xs u.
-      ends (λ known fit. ((known.0.1.0, known.1.0), (known.0.1.1, known.1.1)))))

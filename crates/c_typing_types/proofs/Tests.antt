@@ -1,5 +1,5 @@
 -- That structs are of a table and that bounds are at least 1 are tests that declarators decide.
-use Rattle.std.proofs.Common.{◌≡◌, ◌∙◌, ◌<◌, ℕ, Bool, true, false, ◌&&◌, nat_le, nat_lt, List, [], ◌∷◌, map, refl, ap, sym}
+use Rattle.std.proofs.Common.{◌≡◌, ◌∙◌, ℕ, Bool, true, false, ◌&&◌, nat_le, List, [], ◌∷◌, map, refl, ap, sym}
 use Rattle.std.proofs.lemmas.Bool.Decides.{Decides-ltb}
 use Rattle.std.specs.List.{AllByRecursion, list_all}
 use Rattle.c_types.specs.declared.ty.FnTy.{FnTy, fold-roll-FnTy, out-FnTy, roll-FnTy, roll-out-FnTy}

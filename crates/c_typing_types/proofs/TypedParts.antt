@@ -25,7 +25,6 @@ use Rattle.c_typed.specs.declared.expression.TypedParam.TheVariants as param
 use Rattle.c_typed.specs.declared.expression.TypedParams.TheVariants as params
 use Rattle.c_typed.specs.declared.expression.TypedSpec.TheVariants as spec
 use Rattle.c_typed.specs.declared.expression.TypedSuffix.TheVariants as suffix
-use Rattle.c_typed.specs.declared.expression.TypedForm.{out-TypedForm}
 use Rattle.c_typed.specs.declared.expression.TypedDirect.TheOpen.{TypedDirect-F, TypedForm-F, TypedParam-F, TypedParams-F, TypedSpec-F, TypedSuffix-F}
 use Rattle.c_operators.specs.Operators.{typed}
 use Rattle.c_typing_types.specs.Types.{DeclaredLevel, DeclaredTypes, ExprLevel, ExprTypes, ParamLevel, SpecTypes, TypeWordLevel}

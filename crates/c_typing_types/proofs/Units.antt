@@ -1,5 +1,5 @@
 -- A type whose bounds are at least 1 has a unit at least, where the bodies of structs have members with such types.
-use Rattle.std.proofs.Common.{◌≡◌, ◌∙◌, ◌≤◌, ℕ, zero, suc, ◌+◌, ◌*◌, Bool, true, false, ◌&&◌, nat_le, List, [], ◌∷◌, length, map, Option, Some, None, slice_get, leb-true, refl, ap, sym, subst, arith}
+use Rattle.std.proofs.Common.{◌≡◌, ◌∙◌, ◌≤◌, ℕ, zero, suc, ◌+◌, ◌*◌, true, false, nat_le, List, [], ◌∷◌, length, map, Option, Some, None, slice_get, leb-true, refl, sym, subst, arith}
 use Rattle.std.specs.Option.{option_and_then, option_map}
 use Rattle.c_types.specs.declared.structs.Member.{Member}
 use Rattle.c_types.specs.declared.structs.StructDef.{StructDef}
@@ -9,11 +9,10 @@ use Rattle.c_types.specs.declared.ty.Ty.TheOpen.{Ty-F}
 use Rattle.c_types.specs.Kinds.{Outer}
 use Rattle.c_types.specs.Structs.{body_of}
 use Rattle.c_types.specs.Units.{body_units, exact_units, sized, sized_step, struct_units, total}
-use Rattle.c_typing_types.specs.Filled.{are_some}
 use Rattle.c_typing_types.specs.Types.{has_bounds}
 use Rattle.c_typing_types.proofs.Good.{both}
 use Rattle.c_typing_types.proofs.Known.{at-held}
-use Rattle.c_typing_types.proofs.Steps.{BodyFine, MembersFine, StructsFine}
+use Rattle.c_typing_types.proofs.Steps.{BodyFine, StructsFine}
 use Rattle.c_typing_types.proofs.Tests.{bounds, bounds-made}
 
 -- what is found, if something is, is at least 1

@@ -11,7 +11,6 @@ use Rattle.c_tree.specs.declared.statement.ForInit.{ForInit}
 use Rattle.c_tree.specs.declared.statement.ForInit.TheVariants as for_init
 use Rattle.c_tree.specs.declared.statement.Init.{Init, out-Init}
 use Rattle.c_tree.specs.declared.statement.Init.TheOpen.{Init-F}
-use Rattle.c_tree.specs.declared.statement.InitDeclarator.{InitDeclarator}
 use Rattle.c_tree.specs.declared.statement.Item.{Item}
 use Rattle.c_tree.specs.declared.statement.Item.TheVariants as item
 use Rattle.c_tree.specs.declared.statement.Unit.{Unit as Source}

@@ -1,5 +1,5 @@
 -- That each type of a typed source passes a test, and tests: that its bounds are at least 1, and that declarators make its functions.
-use Rattle.std.specs.Prelude.{ℕ, ◌≤◌, Bool, true, false, ◌&&◌, ◌||◌, nat_le, IsTrue, List, length, Option, Some, None}
+use Rattle.std.specs.Prelude.{◌≤◌, Bool, true, false, ◌&&◌, ◌||◌, nat_le, IsTrue, length, Option, Some, None}
 use Rattle.std.specs.List.{AllByRecursion, list_all}
 use Rattle.c_types.specs.declared.ty.FnTy.{FnTy, fold-FnTy, out-FnTy}
 use Rattle.c_types.specs.declared.ty.Ty.{Ty, fold-Ty}
