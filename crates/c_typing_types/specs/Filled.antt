@@ -1,4 +1,4 @@
--- Sources without empty braces: no initialiser is `{}`, and each body of a struct declares a member. No text gives another.
+-- Sources without empty braces: no initialiser is `{}`, and each body of a struct declares a member. The grammar has no others.
 use Rattle.std.specs.Prelude.{Bool, true, false, ◌&&◌, ◌||◌, List, [], ◌∷◌, Option, Some, None}
 use Rattle.std.specs.List.{list_all}
 use Rattle.c_tree.specs.declared.expression.Direct.TheOpen.{Spec-F}
