@@ -1,0 +1,6 @@
+//! The laws of the types in typed forms: which structs they name, their functions, and their bounds.
+#![tactic(auto)]
+
+mod theorems;
+
+pub use theorems::{bounds_are_given, functions_are_declarable, types_name_structs};
