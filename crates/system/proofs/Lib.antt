@@ -1,5 +1,0 @@
-mod AnswersFit
-mod RecordsInOrder
-mod RunsInParts
-mod SeatLemmas
-mod Turns
