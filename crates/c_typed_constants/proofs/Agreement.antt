@@ -112,7 +112,7 @@ module _ (k : Context) (names : List (List ℕ × Ty)) where
   step x parts typed reads =
       let node : FormLayer = out-TypedForm (out-TypedExpr x).form in
       let operands : Operands ExprAgrees node = operands-joined IfTyped (IsTypedExpr k) (WordsAreRead k.structs names) ExprAgrees (λ e h t r. h t r) node parts
-          (inside AnyForm (NodeLevel k) x typed) (inside (FormReads k.structs names) (λ _. Unit {0}) x reads) in
+      (inside AnyForm (NodeLevel k) x typed) (inside (FormReads k.structs names) (λ _. Unit {0}) x reads) in
       let level = here AnyForm (NodeLevel k) x typed in
       subst (λ t. Of (constant_of x) (of.expr t)) (sym (expr-tree x))
       (form-agrees node (out-TypedExpr x).ty (out-TypedExpr x).constant level.row (form-here (FormReads k.structs names) (λ _. Unit {0}) x reads) operands)

@@ -178,19 +178,19 @@ module _ (F : FormLayer → Type 0) (N : ExprNode → Type 0) where
       let layer = every_held-TypedForm (λ _. Unit {0}) F (λ _. Unit {0}) (λ _. Unit {0}) (λ _. Unit {0}) (λ _. Unit {0})
       (λ _. Unit {0}) (λ _. Unit {0}) (λ _. Unit {0}) N (λ _. Unit {0}) (λ _. Unit {0}) (out-TypedExpr e).form (every-form e h) in
       subst (Operands Every) layer.1 (held-operands
-          (λ t. every-TypedDirect (λ _. Unit {0}) F (λ _. Unit {0}) (λ _. Unit {0}) (λ _. Unit {0}) (λ _. Unit {0}) (λ _. Unit {0}) (λ _. Unit {0}) (λ _. Unit {0}) N (λ _. Unit {0}) (λ _. Unit {0}) t)
-          EveryForm
-          (λ t. every-TypedParam (λ _. Unit {0}) F (λ _. Unit {0}) (λ _. Unit {0}) (λ _. Unit {0}) (λ _. Unit {0}) (λ _. Unit {0}) (λ _. Unit {0}) (λ _. Unit {0}) N (λ _. Unit {0}) (λ _. Unit {0}) t)
-          (λ t. every-TypedParams (λ _. Unit {0}) F (λ _. Unit {0}) (λ _. Unit {0}) (λ _. Unit {0}) (λ _. Unit {0}) (λ _. Unit {0}) (λ _. Unit {0}) (λ _. Unit {0}) N (λ _. Unit {0}) (λ _. Unit {0}) t)
-          (λ t. every-TypedSpec (λ _. Unit {0}) F (λ _. Unit {0}) (λ _. Unit {0}) (λ _. Unit {0}) (λ _. Unit {0}) (λ _. Unit {0}) (λ _. Unit {0}) (λ _. Unit {0}) N (λ _. Unit {0}) (λ _. Unit {0}) t)
-          (λ t. every-TypedSuffix (λ _. Unit {0}) F (λ _. Unit {0}) (λ _. Unit {0}) (λ _. Unit {0}) (λ _. Unit {0}) (λ _. Unit {0}) (λ _. Unit {0}) (λ _. Unit {0}) N (λ _. Unit {0}) (λ _. Unit {0}) t)
-          (λ t. every-Declared (λ _. Unit {0}) F (λ _. Unit {0}) (λ _. Unit {0}) (λ _. Unit {0}) (λ _. Unit {0}) (λ _. Unit {0}) (λ _. Unit {0}) (λ _. Unit {0}) N (λ _. Unit {0}) (λ _. Unit {0}) t)
-          (λ t. every-TypedAbstractDeclarator (λ _. Unit {0}) F (λ _. Unit {0}) (λ _. Unit {0}) (λ _. Unit {0}) (λ _. Unit {0}) (λ _. Unit {0}) (λ _. Unit {0}) (λ _. Unit {0}) N (λ _. Unit {0}) (λ _. Unit {0}) t)
-          (λ t. every-TypedDeclarator (λ _. Unit {0}) F (λ _. Unit {0}) (λ _. Unit {0}) (λ _. Unit {0}) (λ _. Unit {0}) (λ _. Unit {0}) (λ _. Unit {0}) (λ _. Unit {0}) N (λ _. Unit {0}) (λ _. Unit {0}) t)
-          Every
-          (λ t. every-TypedMemberDecl (λ _. Unit {0}) F (λ _. Unit {0}) (λ _. Unit {0}) (λ _. Unit {0}) (λ _. Unit {0}) (λ _. Unit {0}) (λ _. Unit {0}) (λ _. Unit {0}) N (λ _. Unit {0}) (λ _. Unit {0}) t)
-          (λ t. every-TypedTypeWord (λ _. Unit {0}) F (λ _. Unit {0}) (λ _. Unit {0}) (λ _. Unit {0}) (λ _. Unit {0}) (λ _. Unit {0}) (λ _. Unit {0}) (λ _. Unit {0}) N (λ _. Unit {0}) (λ _. Unit {0}) t)
-          layer.0)
+      (λ t. every-TypedDirect (λ _. Unit {0}) F (λ _. Unit {0}) (λ _. Unit {0}) (λ _. Unit {0}) (λ _. Unit {0}) (λ _. Unit {0}) (λ _. Unit {0}) (λ _. Unit {0}) N (λ _. Unit {0}) (λ _. Unit {0}) t)
+      EveryForm
+      (λ t. every-TypedParam (λ _. Unit {0}) F (λ _. Unit {0}) (λ _. Unit {0}) (λ _. Unit {0}) (λ _. Unit {0}) (λ _. Unit {0}) (λ _. Unit {0}) (λ _. Unit {0}) N (λ _. Unit {0}) (λ _. Unit {0}) t)
+      (λ t. every-TypedParams (λ _. Unit {0}) F (λ _. Unit {0}) (λ _. Unit {0}) (λ _. Unit {0}) (λ _. Unit {0}) (λ _. Unit {0}) (λ _. Unit {0}) (λ _. Unit {0}) N (λ _. Unit {0}) (λ _. Unit {0}) t)
+      (λ t. every-TypedSpec (λ _. Unit {0}) F (λ _. Unit {0}) (λ _. Unit {0}) (λ _. Unit {0}) (λ _. Unit {0}) (λ _. Unit {0}) (λ _. Unit {0}) (λ _. Unit {0}) N (λ _. Unit {0}) (λ _. Unit {0}) t)
+      (λ t. every-TypedSuffix (λ _. Unit {0}) F (λ _. Unit {0}) (λ _. Unit {0}) (λ _. Unit {0}) (λ _. Unit {0}) (λ _. Unit {0}) (λ _. Unit {0}) (λ _. Unit {0}) N (λ _. Unit {0}) (λ _. Unit {0}) t)
+      (λ t. every-Declared (λ _. Unit {0}) F (λ _. Unit {0}) (λ _. Unit {0}) (λ _. Unit {0}) (λ _. Unit {0}) (λ _. Unit {0}) (λ _. Unit {0}) (λ _. Unit {0}) N (λ _. Unit {0}) (λ _. Unit {0}) t)
+      (λ t. every-TypedAbstractDeclarator (λ _. Unit {0}) F (λ _. Unit {0}) (λ _. Unit {0}) (λ _. Unit {0}) (λ _. Unit {0}) (λ _. Unit {0}) (λ _. Unit {0}) (λ _. Unit {0}) N (λ _. Unit {0}) (λ _. Unit {0}) t)
+      (λ t. every-TypedDeclarator (λ _. Unit {0}) F (λ _. Unit {0}) (λ _. Unit {0}) (λ _. Unit {0}) (λ _. Unit {0}) (λ _. Unit {0}) (λ _. Unit {0}) (λ _. Unit {0}) N (λ _. Unit {0}) (λ _. Unit {0}) t)
+      Every
+      (λ t. every-TypedMemberDecl (λ _. Unit {0}) F (λ _. Unit {0}) (λ _. Unit {0}) (λ _. Unit {0}) (λ _. Unit {0}) (λ _. Unit {0}) (λ _. Unit {0}) (λ _. Unit {0}) N (λ _. Unit {0}) (λ _. Unit {0}) t)
+      (λ t. every-TypedTypeWord (λ _. Unit {0}) F (λ _. Unit {0}) (λ _. Unit {0}) (λ _. Unit {0}) (λ _. Unit {0}) (λ _. Unit {0}) (λ _. Unit {0}) (λ _. Unit {0}) N (λ _. Unit {0}) (λ _. Unit {0}) t)
+      layer.0)
 
 -- ---- induction
 

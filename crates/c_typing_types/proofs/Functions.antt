@@ -87,7 +87,7 @@ said f fits =
     let t : Ty = (out-FnTy f).result in
     let ts : List Ty = (out-FnTy f).params in
     let h = both ((tested t).fits && ((tested t).scalar || (tested t).void)) (list_all (λ p. p.fits && p.scalar) (map tested ts) && nat_le (length (map tested ts)) most_parameters)
-        (sym (function-made (out-FnTy f)) ∙ ap function_fits (roll-out-FnTy f) ∙ fits) in
+    (sym (function-made (out-FnTy f)) ∙ ap function_fits (roll-out-FnTy f) ∙ fits) in
     let r = both (tested t).fits ((tested t).scalar || (tested t).void) h.0 in
     let p = both (list_all (λ p. p.fits && p.scalar) (map tested ts)) (nat_le (length (map tested ts)) most_parameters) h.1 in
     record { result_fits = r.0; result = r.1; params = p.0; few = p.1 }

@@ -13,8 +13,8 @@ use job::cut_job;
 use meaning::small::{Program, Trace, is_violated};
 use meaning::{Events, Inputs};
 use script::read_script;
-use std::alloc::{AllocError, Global};
 use small_system::System;
+use std::alloc::{AllocError, Global};
 use trace::trace_text;
 
 /// A status, and the text to write with it.

@@ -3,10 +3,10 @@ ghost use Rattle.meaning.specs.small.Program.{IsValid};
 
 use meaning::small::{Function, GlobalType, Instr, Program, Record, ResultType, Trace};
 use meaning::{Action, Check, Entry, Event, Note, Place, Reply, Stop};
+use small_system::System;
 use sqlite_items::Items;
 use std::alloc::{AllocError, Global};
 use std::test::Fail;
-use small_system::System;
 
 const POINTER: GlobalType = GlobalType::Pointer;
 

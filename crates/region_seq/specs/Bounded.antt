@@ -32,10 +32,10 @@ of_parts p = record {
 abbrev pub bounded_code : Coded Bounded
 bounded_code =
     code_by Parts
-        (coded× (coded× coded_ℕ coded_ℕ)
-            (coded× (coded× coded_ℕ coded_ℕ)
-                (coded× (map_code coded_ℕ coded_unit) (map_code coded_ℕ entry.the_row.coded))))
-        parts_of of_parts (λ _. refl)
+    (coded× (coded× coded_ℕ coded_ℕ)
+    (coded× (coded× coded_ℕ coded_ℕ)
+    (coded× (map_code coded_ℕ coded_unit) (map_code coded_ℕ entry.the_row.coded))))
+    parts_of of_parts (λ _. refl)
 
 -- a store before anything is done
 abbrev pub new_region : ℕ → ℕ → Bounded

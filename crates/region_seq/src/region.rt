@@ -35,9 +35,9 @@ impl Model for Region {
     ghost use Rattle.std.specs.Prelude.{◌≤◌};
 
     ghost view = { λ r. record {
-        slots = r.slots;
-        threads = r.threads;
-        store = record { next = r.next; ended = r.ended; count = r.count; entries = r.entries };
+      slots = r.slots;
+      threads = r.threads;
+      store = record { next = r.next; ended = r.ended; count = r.count; entries = r.entries };
     } };
 
     ghost invariant = { λ r. (r.threads ≤ 16) × (r.count ≤ r.threads) };

@@ -20,9 +20,9 @@ pub record TraceView : Type 0 where
 abbrev pub trace_code : Coded TraceView
 trace_code =
     code_by (List ℤ × (List Record × ℕ)) (coded× (coded_list coded_ℤ) (coded× (coded_list record_contract.the_row.coded) coded_ℕ))
-        (λ t. (t.inputs, (t.records, t.spare)))
-        (λ p. record { inputs = p.0; records = p.1.0; spare = p.1.1 })
-        (λ _. refl)
+    (λ t. (t.inputs, (t.records, t.spare)))
+    (λ p. record { inputs = p.0; records = p.1.0; spare = p.1.1 })
+    (λ _. refl)
 
 -- an action that a record tells
 abbrev pub IsTold : Action → Type 0

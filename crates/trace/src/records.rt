@@ -3,10 +3,8 @@ ghost use Rattle.std.specs.Prelude.{◌≡◌, ◌+◌, ◌-◌, ◌≤◌, ◌<
 ghost use Rattle.meaning.specs.small.Trace.{added, joined, is_violated, names_check};
 ghost use Rattle.trace.specs.Records.{IsRecord};
 
-use meaning::Inputs;
-use meaning::Note;
-use meaning::Stop;
 use meaning::small::Record;
+use meaning::{Inputs, Note, Stop};
 use std::alloc::{AllocError, Global};
 use std::marker::Model;
 
@@ -27,9 +25,9 @@ impl Model for Trace {
     ghost coded = { trace_code };
 
     ghost view = { λ t. record {
-        inputs = t.inputs;
-        records = t.records.items;
-        spare = vec_capacity t.records - vec_len t.records;
+      inputs = t.inputs;
+      records = t.records.items;
+      spare = vec_capacity t.records - vec_len t.records;
     } };
 }
 
@@ -121,7 +119,7 @@ fn joined_last(records: &[Record], entry: Record) -> Option<Record>
     ensures { MatchOption result
         (added records.now entry ≡ records.now ++ entry ∷ [])
         (λ both. (0 < length records.now)
-            × (added records.now entry ≡ slice_set records.now (length records.now - 1) both)) }
+        × (added records.now entry ≡ slice_set records.now (length records.now - 1) both)) }
 {
     let last = records.last()?;
     joined(*last, entry)
