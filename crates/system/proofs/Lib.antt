@@ -1,0 +1,6 @@
+mod AnswersFit
+mod RecordsInOrder
+mod RunsInParts
+mod SeatLemmas
+mod Systems
+mod Turns

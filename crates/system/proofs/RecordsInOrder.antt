@@ -1,0 +1,8 @@
+-- Records that go behind a trace one after another.
+use Rattle.std.proofs.Common.{◌≡◌, ℕ, List, [], ◌∷◌, ◌++◌, refl, ap, ◌∙◌}
+use Rattle.meaning.specs.declared.small.record.Record.{Record}
+use Rattle.meaning.specs.small.Trace.{added, added_all}
+
+pub added_all-append : (trace rs ss : List Record) → added_all trace (rs ++ ss) ≡ added_all (added_all trace rs) ss
+added_all-append trace [] ss = refl
+added_all-append trace (r ∷ rs) ss = added_all-append (added trace r) rs ss

@@ -1,0 +1,10 @@
+//! The protected machine over all of Core: a run of code over turns, corruptions and cuts, with the safe store apart
+//! from ordinary memory.
+#![tactic(auto)]
+
+mod machine;
+mod memories;
+mod record;
+mod turn;
+
+pub use machine::System;

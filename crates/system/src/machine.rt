@@ -1,0 +1,201 @@
+//! The system, and what each event does to it.
+ghost use Rattle.std.specs.Prelude.{◌≡◌, ℕ, ◌≤◌, ◌<◌, [], ◌∷◌, length, map, slice_get, take, Option, OnOk, OnErr, IfOk};
+ghost use Rattle.machine.specs.declared.code.Code.{Code};
+ghost use Rattle.machine.specs.ValidCode.{ValidCode};
+ghost use Rattle.system.specs.State.{IsSeat, thread_of};
+ghost use Rattle.system.specs.inner.Seats.{first_threads};
+ghost use Rattle.thread_engine.specs.State.{ThreadState};
+
+use super::memories::Memories;
+use super::turn::{cut_seat, turn_seat};
+use machine::Code;
+use meaning::small::Record;
+use meaning::{Event, Events, Inputs};
+use plain_seq::Plain;
+use region_seq::Region;
+use std::alloc::{AllocError, Global};
+use thread_engine::Thread;
+use trace::Trace;
+
+/// The state of a run: the safe store, ordinary memory and the threads. A thread that was cut off is none.
+#[derive(Drop)]
+pub struct System {
+    memories: Memories,
+    threads: Vec<Option<Thread>>,
+}
+
+/// The threads of a run, before their first turns.
+fn open_threads(alloc: Global, code: &Code, threads: u8) -> Result<Vec<Option<Thread>>, AllocError>
+    requires valid { ValidCode code.now }
+    ensures threads { IfOk result (λ seats. map thread_of seats.items ≡ first_threads code.now threads) }
+    ensures count { IfOk result (λ seats. length seats.items ≡ threads) }
+    ensures each { IfOk result (λ seats. (n : ℕ) (seat : Option ThreadState)
+        → slice_get seats.items n ≡ Option.Some seat → IsSeat code.now n seat) }
+{
+    let mut seats = Vec::new(alloc);
+    for n in 0..threads {
+        seats.push(Some(Thread::open(alloc, code, n)?))?;
+    }
+    Ok(seats)
+}
+
+impl System {
+    ghost use Rattle.std.specs.Prelude.{◌≡◌, ℕ, ◌≤◌, [], ◌∷◌, take, OnOk, OnErr, IfOk};
+    ghost use Rattle.meaning.specs.declared.event.Event.TheVariants.{Turn, Corrupt, Cut};
+    ghost use Rattle.machine.specs.declared.code.Code.{Code};
+    ghost use Rattle.machine.specs.ValidCode.{ValidCode};
+    ghost use Rattle.machine.specs.Run.{opening, happens, steps_from, state_after};
+    ghost use Rattle.machine.specs.Trace.{traced};
+    ghost use Rattle.system.specs.State.{state_of, setting_of, threads_of, IsSystem, IsSystemOf};
+
+    /// The system that begins a run of code, with these inputs, at most this many threads, 1 to 16, and this many slots,
+    /// 1,026 to 1,048,576.
+    ///
+    /// # Errors
+    ///
+    /// `AllocError`, where no memory is left.
+    pub fn open(
+        alloc: Global,
+        code: &Code,
+        inputs: &Inputs,
+        threads: u8,
+        slots: u32,
+    ) -> Result<System, AllocError>
+        requires valid { ValidCode code.now }
+        requires some_thread { 1 ≤ threads }
+        requires few_threads { threads ≤ 16 }
+        requires least_slots { 1026 ≤ slots }
+        requires most_slots { slots ≤ 1048576 }
+        ensures state { IfOk result (λ s. state_of s ≡ opening (setting_of code.now s) threads) }
+        ensures setting { IfOk result (λ s. setting_of code.now s
+            ≡ record { code = code.now; inputs = inputs.now; slots = slots }) }
+        ensures threads { IfOk result (λ s. threads_of s ≡ threads) }
+        ensures same { IfOk result (IsSystemOf code.now) }
+    {
+        let memories = Memories {
+            region: Region::open(alloc, slots, threads)?,
+            plain: Plain::open(alloc)?,
+            inputs: Inputs::from_slice(alloc, inputs.as_slice())?,
+        };
+        let threads = open_threads(alloc, code, threads)?;
+        Ok(System { memories, threads })
+    }
+
+    /// A turn of a thread, which is recorded. It does nothing where the thread has ended or stopped, or there is no
+    /// such thread.
+    ///
+    /// # Errors
+    ///
+    /// `AllocError`, which leaves the trace as it was. The run can't go on behind it.
+    pub fn turn(&mut self, code: &Code, t: u8, trace: &mut Trace) -> Result<(), AllocError>
+        requires valid { ValidCode code.now }
+        requires same { IsSystemOf code.now self.old }
+        ensures ok { OnOk result (state_of self.new
+            ≡ (happens (setting_of code.now self.old) (state_of self.old) (Turn t)).after) }
+        ensures recorded { OnOk result (trace.new.records
+            ≡ traced trace.old.records ((happens (setting_of code.now self.old) (state_of self.old) (Turn t)).step ∷ [])) }
+        ensures err { OnErr result (trace.new.records ≡ trace.old.records) }
+        ensures same { IsSystemOf code.now self.new }
+        ensures setting { setting_of code.now self.new ≡ setting_of code.now self.old }
+        ensures threads { threads_of self.new ≡ threads_of self.old }
+        ensures inputs { trace.new.inputs ≡ trace.old.inputs }
+    {
+        let Some(seat) = self.threads.get_mut(usize::from(t)) else {
+            return Ok(());
+        };
+        turn_seat(code, t, seat, &mut self.memories, trace)?;
+        Ok(())
+    }
+
+    /// A corruption: word `v` is written at address `a` of ordinary memory.
+    ///
+    /// # Errors
+    ///
+    /// `AllocError`, which leaves the system and the trace as they were.
+    pub fn corrupt(&mut self, a: u32, v: i64, trace: &mut Trace) -> Result<(), AllocError>
+        ensures ok { (code : Code) → OnOk result (state_of self.new
+            ≡ (happens (setting_of code self.old) (state_of self.old) (Corrupt a v)).after) }
+        ensures recorded { (code : Code) → OnOk result (trace.new.records
+            ≡ traced trace.old.records ((happens (setting_of code self.old) (state_of self.old) (Corrupt a v)).step ∷ [])) }
+        ensures err { OnErr result ((state_of self.new ≡ state_of self.old) × (trace.new.records ≡ trace.old.records)) }
+        ensures same { (code : Code) → IsSystemOf code self.old → IsSystemOf code self.new }
+        ensures setting { (code : Code) → setting_of code self.new ≡ setting_of code self.old }
+        ensures threads { threads_of self.new ≡ threads_of self.old }
+        ensures inputs { trace.new.inputs ≡ trace.old.inputs }
+    {
+        trace.reserve(1)?;
+        self.memories.plain.store(a, v)?;
+        trace.push(Record::Wrote { a, v });
+        Ok(())
+    }
+
+    /// Stops a thread that is live and has begun with `Budget`.
+    ///
+    /// # Errors
+    ///
+    /// `AllocError`, which leaves the system and the trace as they were.
+    pub fn cut(&mut self, t: u8, trace: &mut Trace) -> Result<(), AllocError>
+        requires within { IsSystem self.old }
+        ensures ok { (code : Code) → OnOk result (state_of self.new
+            ≡ (happens (setting_of code self.old) (state_of self.old) (Cut t)).after) }
+        ensures recorded { (code : Code) → OnOk result (trace.new.records
+            ≡ traced trace.old.records ((happens (setting_of code self.old) (state_of self.old) (Cut t)).step ∷ [])) }
+        ensures err { OnErr result ((state_of self.new ≡ state_of self.old) × (trace.new.records ≡ trace.old.records)) }
+        ensures same { (code : Code) → IsSystemOf code self.old → IsSystemOf code self.new }
+        ensures setting { (code : Code) → setting_of code self.new ≡ setting_of code self.old }
+        ensures threads { threads_of self.new ≡ threads_of self.old }
+        ensures inputs { trace.new.inputs ≡ trace.old.inputs }
+    {
+        let Some(seat) = self.threads.get_mut(usize::from(t)) else {
+            return Ok(());
+        };
+        cut_seat(t, seat, trace)?;
+        Ok(())
+    }
+
+    /// The events of a run, one after another.
+    ///
+    /// # Errors
+    ///
+    /// `AllocError`. The trace then has the records of the events before it.
+    pub fn run(&mut self, code: &Code, events: &Events, trace: &mut Trace) -> Result<(), AllocError>
+        requires valid { ValidCode code.now }
+        requires same { IsSystemOf code.now self.old }
+        ensures ok { OnOk result (state_of self.new
+            ≡ state_after (setting_of code.now self.old) (state_of self.old) events.now) }
+        ensures recorded { OnOk result (trace.new.records
+            ≡ traced trace.old.records (steps_from (setting_of code.now self.old) (state_of self.old) events.now)) }
+        ensures err { OnErr result ((n : ℕ) × (trace.new.records
+            ≡ traced trace.old.records (steps_from (setting_of code.now self.old) (state_of self.old) (take n events.now)))) }
+        ensures same { IsSystemOf code.now self.new }
+        ensures setting { setting_of code.now self.new ≡ setting_of code.now self.old }
+        ensures threads { threads_of self.new ≡ threads_of self.old }
+        ensures inputs { trace.new.inputs ≡ trace.old.inputs }
+    {
+        for event in events.as_slice() {
+            self.step(code, *event, trace)?;
+        }
+        Ok(())
+    }
+
+    /// One event.
+    fn step(&mut self, code: &Code, event: Event, trace: &mut Trace) -> Result<(), AllocError>
+        requires valid { ValidCode code.now }
+        requires same { IsSystemOf code.now self.old }
+        ensures ok { OnOk result (state_of self.new
+            ≡ (happens (setting_of code.now self.old) (state_of self.old) event).after) }
+        ensures recorded { OnOk result (trace.new.records
+            ≡ traced trace.old.records ((happens (setting_of code.now self.old) (state_of self.old) event).step ∷ [])) }
+        ensures err { OnErr result (trace.new.records ≡ trace.old.records) }
+        ensures same { IsSystemOf code.now self.new }
+        ensures setting { setting_of code.now self.new ≡ setting_of code.now self.old }
+        ensures threads { threads_of self.new ≡ threads_of self.old }
+        ensures inputs { trace.new.inputs ≡ trace.old.inputs }
+    {
+        match event {
+            Event::Turn(t) => self.turn(code, t, trace),
+            Event::Corrupt(a, v) => self.corrupt(a, v, trace),
+            Event::Cut(t) => self.cut(t, trace),
+        }
+    }
+}

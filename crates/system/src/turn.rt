@@ -1,0 +1,141 @@
+//! What an event does to one thread.
+ghost use Rattle.std.specs.Prelude.{◌≡◌, ◌≤◌, ◌<◌, [], ◌∷◌, List, length, slice_get, slice_set, Option, OnOk, OnErr};
+ghost use Rattle.meaning.specs.declared.value.Value.{Value};
+ghost use Rattle.meaning.specs.small.Trace.{added_all};
+ghost use Rattle.machine.specs.Frames.{Thread as ModelThread};
+ghost use Rattle.machine.specs.Protected.{next};
+ghost use Rattle.machine.specs.Run.{cuts, turns};
+ghost use Rattle.machine.specs.Store.{remembered};
+ghost use Rattle.machine.specs.Trace.{traced, turn_records};
+ghost use Rattle.machine.specs.ValidCode.{ValidCode};
+ghost use Rattle.region_seq.specs.Bounded.{behind};
+ghost use Rattle.thread_engine.specs.Sound.{IsSound, most_slots};
+ghost use Rattle.system.specs.State.{IsSeat, thread_of};
+ghost use Rattle.system.specs.inner.Seats.{Keeps, answer_of, is_running, setting_with, state_with, told_of};
+
+use super::memories::Memories;
+use super::record::record_turn;
+use machine::Code;
+use meaning::small::Record;
+use meaning::{Note, Stop};
+use std::alloc::AllocError;
+use thread_engine::Thread;
+use trace::Trace;
+
+/// The most records of a turn: its action, a transfer, and a function for each parameter.
+const MOST_RECORDS: usize = 11;
+
+/// A turn of live thread `t`, which is recorded.
+///
+/// # Errors
+///
+/// `AllocError`. The thread, the inputs and the trace are as before.
+#[tactic(auto, using(crate::proofs::AnswersFit::answers_fit, crate::proofs::AnswersFit::slots_are_there, crate::proofs::Turns::told_records))]
+fn take_turn(
+    code: &Code,
+    t: u8,
+    thread: &mut Thread,
+    memories: &mut Memories,
+    trace: &mut Trace,
+) -> Result<(), AllocError>
+    requires valid { ValidCode code.now }
+    requires sound { IsSound code.now thread.old.thread }
+    requires number { thread.old.number ≡ t }
+    requires few { t < 16 }
+    requires slots { memories.old.region.slots ≤ most_slots }
+    ensures thread { OnOk result (thread.new.thread ≡ (told_of code.now t thread.old.thread memories.old).thread) }
+    ensures number { thread.new.number ≡ t }
+    ensures sound { IsSound code.now thread.new.thread }
+    ensures region { OnOk result (memories.new.region ≡ behind memories.old.region (next code.now t thread.old.thread)) }
+    ensures plain { OnOk result (memories.new.plain ≡ remembered memories.old.plain (next code.now t thread.old.thread)) }
+    ensures records { OnOk result (trace.new.records ≡ added_all trace.old.records
+        (turn_records t (next code.now t thread.old.thread)
+        (answer_of memories.old (next code.now t thread.old.thread))
+        (told_of code.now t thread.old.thread memories.old).notes)) }
+    ensures err { OnErr result (trace.new.records ≡ trace.old.records) }
+    ensures kept { Keeps memories.old memories.new }
+    ensures inputs { trace.new.inputs ≡ trace.old.inputs }
+{
+    trace.reserve(MOST_RECORDS)?;
+    let action = thread.next(code);
+    let reply = memories.answer(action)?;
+    let notes = thread.resume(code, reply)?;
+    record_turn(trace, t, action, reply, notes.as_slice());
+    Ok(())
+}
+
+/// A turn of thread `t`, unless it isn't live.
+///
+/// # Errors
+///
+/// `AllocError`. The trace is as before.
+#[tactic(auto, using(crate::proofs::Turns::taken, crate::proofs::Turns::recorded, crate::proofs::Turns::stays, crate::proofs::Turns::unrecorded))]
+pub fn turn_seat(
+    code: &Code,
+    t: u8,
+    seat: &mut Option<Thread>,
+    memories: &mut Memories,
+    trace: &mut Trace,
+) -> Result<(), AllocError>
+    requires valid { ValidCode code.now }
+    requires seat { IsSeat code.now t seat.old }
+    requires few { t < 16 }
+    requires slots { memories.old.region.slots ≤ most_slots }
+    ensures after { OnOk result ((threads : List (ModelThread Value)) → length threads ≡ memories.old.region.threads
+        → slice_get threads t ≡ Option.Some (thread_of seat.old)
+        → (turns (setting_with code.now memories.old) (state_with memories.old threads) t (Option.Some (thread_of seat.old))).after
+        ≡ state_with memories.new (slice_set threads t (thread_of seat.new))) }
+    ensures recorded { OnOk result ((threads : List (ModelThread Value)) → length threads ≡ memories.old.region.threads
+        → trace.new.records ≡ traced trace.old.records
+        ((turns (setting_with code.now memories.old) (state_with memories.old threads) t (Option.Some (thread_of seat.old))).step ∷ [])) }
+    ensures err { OnErr result (trace.new.records ≡ trace.old.records) }
+    ensures seat { IsSeat code.now t seat.new }
+    ensures kept { Keeps memories.old memories.new }
+    ensures inputs { trace.new.inputs ≡ trace.old.inputs }
+{
+    match seat {
+        Some(thread) if thread.is_live() => {
+            take_turn(code, t, thread, memories, trace)?;
+            Ok(())
+        }
+        _ => Ok(()),
+    }
+}
+
+/// Stops thread `t` with `Budget`, if it is live and has begun.
+///
+/// # Errors
+///
+/// `AllocError`, which leaves it and the trace as they were.
+pub fn cut_seat(t: u8, seat: &mut Option<Thread>, trace: &mut Trace) -> Result<(), AllocError>
+    requires few { t < 16 }
+    ensures after { OnOk result ((memories : Memories) (threads : List (ModelThread Value))
+        → slice_get threads t ≡ Option.Some (thread_of seat.old)
+        → (cuts (state_with memories threads) t (Option.Some (thread_of seat.old))).after
+        ≡ state_with memories (slice_set threads t (thread_of seat.new))) }
+    ensures recorded { OnOk result ((memories : Memories) (threads : List (ModelThread Value))
+        → trace.new.records ≡ traced trace.old.records
+        ((cuts (state_with memories threads) t (Option.Some (thread_of seat.old))).step ∷ [])) }
+    ensures err { OnErr result ((seat.new ≡ seat.old) × (trace.new.records ≡ trace.old.records)) }
+    ensures seat { (code : Code) → IsSeat code t seat.old → IsSeat code t seat.new }
+    ensures inputs { trace.new.inputs ≡ trace.old.inputs }
+{
+    if !can_be_cut(seat) {
+        return Ok(());
+    }
+    trace.reserve(1)?;
+    let note = Note::Stopped(Stop::Budget);
+    trace.push(Record::Noted { t, note });
+    *seat = None;
+    Ok(())
+}
+
+/// Whether a thread is live and has begun.
+fn can_be_cut(seat: &Option<Thread>) -> bool
+    ensures { result ≡ is_running (thread_of seat.now) }
+{
+    match seat {
+        Some(thread) => thread.is_live() && thread.has_begun(),
+        None => false,
+    }
+}
