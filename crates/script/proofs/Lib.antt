@@ -1,4 +1,3 @@
 pub mod LineLemmas
 pub mod LinesAreRead
-pub mod NumberLemmas
 pub mod OneAnswer

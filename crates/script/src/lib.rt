@@ -3,7 +3,6 @@
 
 mod error;
 mod grammar;
-mod number;
 mod read;
 mod theorems;
 

@@ -14,7 +14,7 @@ fn refuses_scripts(rt: HostRuntime) -> Result<(), Fail> {
         (b"t 0 0", None),
         (b"t 0 4000001", first),
         (b"rr 16 250001", Some(ScriptRefusal::TooLong)),
-        (b"rr 2 2000000\nt 0 1", Some(ScriptRefusal::TooLong)),
+        (b"t 0 1\nrr 2 2000000", Some(ScriptRefusal::TooLong)),
         (b"rr 16 250001\nx", Some(ScriptRefusal::Line { n: 2 })),
         (b"rr 0 1", first),
         (b"rr 17 1", first),
