@@ -48,15 +48,13 @@ added : (before : List (List ℕ)) (inputs : List ℤ) (records : List Record) �
 added before inputs records trace lines (Given v) is may inputs' records' add =
     let none : records' ≡ [] = add.1 ∙ may in
     let grown : IsTrace (inputs ++ v ∷ []) [] = trace_given inputs v (subst (IsTrace inputs) may trace) is in
-    let now : before ++ item_text (Given v) ∷ [] ≡ full_lines (inputs ++ v ∷ []) [] = ap (λ t. t ++ item_text (Given v) ∷ []) (lines ∙ ap (full_lines inputs) may) ∙ sym (lines_given inputs v) in
-    (
+    let now : before ++ item_text (Given v) ∷ [] ≡ full_lines (inputs ++ v ∷ []) [] = ap (λ t. t ++ item_text (Given v) ∷ []) (lines ∙ ap (full_lines inputs) may) ∙ sym (lines_given inputs v) in (
       subst (λ i. IsTrace i records') (sym add.0) (subst (IsTrace (inputs ++ v ∷ [])) (sym none) grown),
       now ∙ ap (λ i. full_lines i []) (sym add.0) ∙ ap (full_lines inputs') (sym none),
     )
 added before inputs records trace lines (Recorded r) is may inputs' records' add =
     let grown : IsTrace inputs (records ++ r ∷ []) = trace_recorded inputs records r trace is may in
-    let now : before ++ item_text (Recorded r) ∷ [] ≡ full_lines inputs (records ++ r ∷ []) = ap (λ t. t ++ item_text (Recorded r) ∷ []) lines ∙ sym (lines_recorded inputs records r) in
-    (
+    let now : before ++ item_text (Recorded r) ∷ [] ≡ full_lines inputs (records ++ r ∷ []) = ap (λ t. t ++ item_text (Recorded r) ∷ []) lines ∙ sym (lines_recorded inputs records r) in (
       subst (λ i. IsTrace i records') (sym add.0) (subst (IsTrace inputs) (sym add.1) grown),
       now ∙ ap (λ i. full_lines i (records ++ r ∷ [])) (sym add.0) ∙ ap (full_lines inputs') (sym add.1),
     )
