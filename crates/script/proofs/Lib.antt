@@ -1,3 +1,4 @@
 pub mod LineLemmas
 pub mod LinesAreRead
+pub mod NumberLemmas
 pub mod OneAnswer

@@ -1,19 +1,18 @@
 -- The texts of a script's lines.
-use Rattle.std.proofs.Common.{◌≡◌, ◌≢◌, ℕ, ℤ, ◌^◌, ◌<◌, ◌≤◌, Bool, true, false, leb, List, [], ◌∷◌, ◌++◌, length, take, drop, get_or, refl, sym, ap, ◌∙◌, arith, Result, Ok, Err, IfNone, ⊎_elim}
+use Rattle.std.proofs.Common.{◌≡◌, ◌≢◌, ℕ, ℤ, ◌^◌, ◌<◌, ◌≤◌, Bool, true, false, leb, List, [], ◌∷◌, ◌++◌, length, take, drop, get_or, refl, sym, ap, ◌∙◌, arith}
 use Rattle.std.specs.Prelude.{nat_eq, not, codes, decimal}
 use Rattle.std.specs.Bool.{then_some}
 use Rattle.std.specs.Fmt.{signed_decimal}
 use Rattle.std.specs.List.{AllByRecursion, position_or_len}
-use Rattle.std.specs.Result.{result_ok, OkIff}
 use Rattle.std.specs.Str.{all_ascii_digits}
-use Rattle.std.proofs.lemmas.Bool.{cases_lt, cond-true, ne_eqb, leb-true, leb-false}
+use Rattle.std.proofs.lemmas.Bool.{cond-true, ne_eqb, leb-true, leb-false}
 use Rattle.std.proofs.lemmas.Fmt.{decimal_injective}
 use Rattle.std.proofs.lemmas.List.{take_at, drop_at}
 use Rattle.std.proofs.lemmas.Str.Parse.{tells_all_ascii_digits}
-use Rattle.fields.specs.Numbers.{IsWord}
-use Rattle.script.specs.Script.{Line, Turns, Write, IsLine, line_text, greatest_turns}
+use Rattle.script.specs.Script.{Line, Turns, Write, IsLine, IsWord, line_text, greatest_turns}
 use Rattle.script.specs.inner.Reading.{IsReading}
 use Rattle.script.specs.declared.grammar.Line.TheVariants as read
+use Rattle.script.proofs.NumberLemmas.{IsDecimal-decimal}
 
 -- no digit is a space
 no_space : (ds : List ℕ) → all_ascii_digits ds ≡ true → AllByRecursion (λ b. nat_eq b 32 ≡ false) ds
@@ -27,10 +26,10 @@ len_before_space [] rest none = refl
 len_before_space (b ∷ bs) rest none = cond-true _ _ _ (ap not none.0) ∙ omega (arith, len_before_space bs rest none.1)
 
 -- the two fields of a write, cut at the first space
-pub fields : ((n : ℕ) → n < 2 ^ 64 → all_ascii_digits (decimal n) ≡ true) → (text : List ℕ) (address : ℕ) (word : List ℕ) (n : ℕ) → address < 2 ^ 64 → n ≡ position_or_len (λ b. nat_eq b 32) text → text ≡ decimal address ++ 32 ∷ word → (take n text ≡ decimal address) × (drop n text ≡ 32 ∷ word)
-fields digits text address word n small at is =
+pub fields : (text : List ℕ) (address : ℕ) (word : List ℕ) (n : ℕ) → address < 2 ^ 64 → n ≡ position_or_len (λ b. nat_eq b 32) text → text ≡ decimal address ++ 32 ∷ word → (take n text ≡ decimal address) × (drop n text ≡ 32 ∷ word)
+fields text address word n small at is =
     let first = decimal address in
-    let len : length first ≡ n = sym (at ∙ ap (position_or_len (λ b. nat_eq b 32)) is ∙ len_before_space first word (no_space first (digits address small))) in
+    let len : length first ≡ n = sym (at ∙ ap (position_or_len (λ b. nat_eq b 32)) is ∙ len_before_space first word (no_space first (IsDecimal-decimal address small).digits)) in
     (ap (take n) is ∙ take_at first (32 ∷ word) n len, ap (drop n) is ∙ drop_at first (32 ∷ word) n len)
 
 -- a text that begins as no line does is none
@@ -53,8 +52,3 @@ turns_reading text n false small is test = no_turns text (λ m few written.
     let same : n ≡ m = decimal_injective n m small (omega arith) (sym is ∙ written) in
     let large = leb-false n greatest_turns test in
     omega arith)
-
--- a number that is no unsigned one of 32 bits is too large
-pub unsigned_too_large : {E : Type 0} (n : ℕ) (r : Result ℕ E) → OkIff r (n < 2 ^ 32) n → IfNone (result_ok r) (2 ^ 32 ≤ n)
-unsigned_too_large n (Ok x) fits = tt
-unsigned_too_large n (Err e) fits = ⊎_elim {A = n < 2 ^ 32} (λ below. absurd (fits below)) (λ above. above) (cases_lt n (2 ^ 32))

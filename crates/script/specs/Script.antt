@@ -1,11 +1,10 @@
 -- The lines of a script and their events.
-use Rattle.std.specs.Prelude.{◌≡◌, ◌≢◌, ℕ, ℤ, ◌+◌, ◌^◌, ◌<◌, ◌≤◌, List, [], ◌∷◌, ◌++◌, length, map, codes, decimal, replicate, Result, Ok, Err}
+use Rattle.std.specs.Prelude.{◌≡◌, ◌≢◌, ℕ, ℤ, pos, negsuc, ◌+◌, ◌^◌, ◌<◌, ◌≤◌, List, [], ◌∷◌, ◌++◌, length, map, codes, decimal, replicate, Result, Ok, Err}
 use Rattle.std.specs.Fmt.{signed_decimal}
 use Rattle.std.specs.List.{All, flat_map}
 use Rattle.meaning.specs.declared.event.Event.{Event}
 use Rattle.meaning.specs.declared.event.Event.TheVariants.{Turn, Corrupt}
 use Rattle.job.specs.Lines.{lines_of, content}
-use Rattle.fields.specs.Numbers.{IsWord}
 use Rattle.script.specs.declared.error.ScriptRefusal.{ScriptRefusal}
 use Rattle.script.specs.declared.error.ScriptRefusal.TheVariants as refusal
 
@@ -22,6 +21,11 @@ line_text (Write address word) = codes "w " ++ decimal address ++ 32 ∷ signed_
 
 abbrev pub greatest_turns : ℕ
 greatest_turns = 4000000
+
+-- a word has 64 bits
+abbrev pub IsWord : ℤ → Type 0
+IsWord (pos n) = n < 2 ^ 63
+IsWord (negsuc n) = n < 2 ^ 63
 
 -- the numbers of a line are in range
 abbrev pub IsLine : Line → Type 0

@@ -3,7 +3,7 @@ ghost use Rattle.std.specs.Prelude.{◌≡◌, ◌++◌, codes, OnOk};
 ghost use Rattle.script.specs.Script.{line_events, line_turns};
 ghost use Rattle.script.specs.inner.Reading.{IsReading, line_of};
 
-use fields::{field_laws, read_number, read_word};
+use super::number::{read_number, read_word};
 use job::len_before;
 use meaning::{Event, Events};
 use std::alloc::AllocError;
@@ -42,7 +42,6 @@ fn read_turns(text: &[u8]) -> Option<Line>
 fn read_write(text: &[u8]) -> Option<Line>
     ensures { IsReading (codes "w " ++ text.now) result }
 {
-    field_laws();
     let (address, word) = text.split_at(len_before(text, b' '));
     let address = u32::try_from(read_number(address)?).ok()?;
     let word = read_word(word.strip_prefix(b" ")?)?;

@@ -3,6 +3,7 @@
 
 mod error;
 mod grammar;
+mod number;
 mod read;
 mod theorems;
 

@@ -7,7 +7,6 @@ ghost use Rattle.script.specs.inner.Reading.{Says, line_of};
 
 use super::error::ScriptRefusal;
 use super::grammar::{GREATEST_TURNS, Line, read_line};
-use fields::field_laws;
 use job::{content_of, line_len};
 use meaning::Events;
 use std::alloc::{AllocError, Global};
@@ -52,7 +51,6 @@ pub fn read_script(alloc: Global, bytes: &[u8]) -> Result<Events, ScriptRefusal>
     ensures exact { (answer : Result (List Event) ScriptRefusal) → Has bytes.now answer
         → (result ≡ answer) ⊎ (result ≡ Err ScriptRefusal.Memory) }
 {
-    field_laws();
     let script = read_lines(alloc, bytes)?;
     if script.turns > GREATEST_TURNS {
         return Err(ScriptRefusal::TooLong);

@@ -1,11 +1,7 @@
 //! What a script can be.
 ghost use Rattle.script.specs.Theorems.{ScriptsHaveOneAnswer};
 
-use fields::field_laws;
-
 /// A script has one list of events, or one refusal, and never both.
 pub fn scripts_have_one_answer()
     ensures { ScriptsHaveOneAnswer }
-{
-    field_laws();
-}
+{}

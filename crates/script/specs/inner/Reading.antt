@@ -1,6 +1,7 @@
 -- What the reader of a script answers.
-use Rattle.std.specs.Prelude.{◌≡◌, ◌≢◌, ℕ, ◌≤◌, List, Option, MatchOption}
+use Rattle.std.specs.Prelude.{◌≡◌, ◌≢◌, ℕ, ◌<◌, ◌≤◌, true, List, length, slice_index, Option, MatchOption}
 use Rattle.std.specs.List.{flat_map}
+use Rattle.std.specs.Str.{all_ascii_digits}
 use Rattle.meaning.specs.declared.event.Event.{Event}
 use Rattle.script.specs.declared.grammar.Line.{Line as Read}
 use Rattle.script.specs.declared.grammar.Line.TheVariants as read
@@ -24,3 +25,9 @@ pub record Says (script : List ℕ) (turns : ℕ) (events : List Event) : Type 0
   pub said : AreLinesOf script lines
   pub turns_are : turns ≡ turns_of lines
   pub events_are : turns ≤ greatest_turns → events ≡ flat_map line_events lines
+
+-- digits, at least one, and a leading zero only in 0
+pub record IsDecimal (text : List ℕ) : Type 0 where
+  pub digits : all_ascii_digits text ≡ true
+  pub some : 0 < length text
+  pub leading : slice_index text 0 ≡ 48 → length text ≡ 1

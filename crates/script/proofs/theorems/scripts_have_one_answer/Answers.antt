@@ -2,4 +2,4 @@ use Rattle.script.proofs.OneAnswer.{one_answer}
 use Rattle.script.proofs.theorems.scripts_have_one_answer.Goals as goal
 
 pub returns : goal.returns
-returns c = one_answer c.field_laws.ensures
+returns c = one_answer
