@@ -1,5 +1,6 @@
 -- The events of turns and rounds, one more at a time.
-use Rattle.std.proofs.Common.{◌≡◌, ℕ, ◌+◌, [], ◌∷◌, ◌++◌, add-one, refl}
+use Rattle.std.proofs.Common.{◌≡◌, ℕ, ◌+◌, List, [], ◌∷◌, ◌++◌, add-one, refl}
+use Rattle.meaning.specs.declared.event.Event.{Event}
 use Rattle.meaning.specs.declared.event.Event.TheVariants.{Turn}
 use Rattle.run_script.specs.Script.{Line, Empty, Comment, Turns, Rounds, Write, Input, IsLine, IsInputLine, round, rounds_of}
 
