@@ -1,7 +1,20 @@
 //! Scripts: what their lines give, and the first line that is none.
-use meaning::Event;
-use run_script::{ScriptRefusal, read_inputs, read_script};
+use meaning::{Event, Inputs};
+use run_script::{Script, ScriptRefusal, read_inputs, read_script};
+use std::process::Abort;
 use std::test::Fail;
+
+/// What `read_script` answers of a short text.
+fn script_of(rt: &(impl Abort + AllocGlobal), text: &[u8]) -> Result<Script, ScriptRefusal> {
+    assert!(rt; text.len() < 10_000);
+    read_script(rt.alloc(), text)
+}
+
+/// What `read_inputs` answers of a short text.
+fn inputs_of(rt: &(impl Abort + AllocGlobal), text: &[u8]) -> Result<Inputs, ScriptRefusal> {
+    assert!(rt; text.len() < 10_000);
+    read_inputs(rt.alloc(), text)
+}
 
 /// The first line that is refused, or too many turns.
 #[test]
@@ -14,7 +27,7 @@ fn refuses_scripts(rt: HostRuntime) -> Result<(), Fail> {
         (b"t 0 0", None),
         (b"t 0 4000001", first),
         (b"rr 16 250001", Some(ScriptRefusal::TooLong)),
-        (b"rr 2 2000000\nt 0 1", Some(ScriptRefusal::TooLong)),
+        (b"t 0 1\nrr 2 2000000", Some(ScriptRefusal::TooLong)),
         (b"rr 16 250001\nx", Some(ScriptRefusal::Line { n: 2 })),
         (b"rr 0 1", first),
         (b"rr 17 1", first),
@@ -50,7 +63,7 @@ fn refuses_scripts(rt: HostRuntime) -> Result<(), Fail> {
         (b"#\r", None),
     ];
     for (text, refusal) in rows {
-        let found = match read_script(rt.alloc(), text) {
+        let found = match script_of(&rt, text) {
             Ok(_) => None,
             Err(refusal) => Some(refusal),
         };
@@ -74,7 +87,7 @@ fn counts_inputs_and_events(rt: HostRuntime) -> Result<(), Fail> {
         (b"t 0 20\nin -3\nin 5", 2, 20),
     ];
     for (text, inputs, events) in rows {
-        let script = read_script(rt.alloc(), text)?;
+        let script = script_of(&rt, text)?;
         assert_eq!(rt; script.inputs.len(), inputs, "inputs of {text:?}");
         assert_eq!(rt; script.events.len(), events, "events of {text:?}");
     }
@@ -84,8 +97,8 @@ fn counts_inputs_and_events(rt: HostRuntime) -> Result<(), Fail> {
 /// The events in their order, and the inputs wherever their lines stand.
 #[test]
 fn gives_events_in_order(rt: HostRuntime) -> Result<(), Fail> {
-    let script = read_script(
-        rt.alloc(),
+    let script = script_of(
+        &rt,
         b"t 1 2\nin -3\nrr 3 2\r\n# t 4 1\n\nw 128 -67108865\nin 7\nt 15 1",
     )?;
     let events = [
@@ -108,10 +121,7 @@ fn gives_events_in_order(rt: HostRuntime) -> Result<(), Fail> {
 /// Inputs alone.
 #[test]
 fn reads_inputs_alone(rt: HostRuntime) -> Result<(), Fail> {
-    let inputs = read_inputs(
-        rt.alloc(),
-        b"in 5\n\n# none\nin -9223372036854775808\r\nin 0",
-    )?;
+    let inputs = inputs_of(&rt, b"in 5\n\n# none\nin -9223372036854775808\r\nin 0")?;
     assert_eq!(rt;
         inputs.as_slice(),
         [5, -9_223_372_036_854_775_808, 0].as_slice()
@@ -125,7 +135,7 @@ fn reads_inputs_alone(rt: HostRuntime) -> Result<(), Fail> {
         (b"in 01", Some(1)),
     ];
     for (text, line) in rows {
-        let found = match read_inputs(rt.alloc(), text) {
+        let found = match inputs_of(&rt, text) {
             Err(ScriptRefusal::Line { n }) => Some(n),
             _ => None,
         };

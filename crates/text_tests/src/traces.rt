@@ -1,8 +1,16 @@
 //! Traces, read back from their full texts.
 use meaning::small::Record;
 use meaning::{Action, Entry, Reply};
+use std::process::Abort;
 use std::test::Fail;
+use trace::Trace;
 use trace_reader::{TraceRefusal, read_trace};
+
+/// What `read_trace` answers of a short text.
+fn trace_of(rt: &(impl Abort + AllocGlobal), text: &[u8]) -> Result<Trace, TraceRefusal> {
+    assert!(rt; text.len() < 10_000);
+    read_trace(rt.alloc(), text)
+}
 
 /// A job that calls through a pointer, in full.
 const CALLS: &[u8] =
@@ -29,7 +37,7 @@ fn full_texts_are_given_back(rt: HostRuntime) -> Result<(), Fail> {
         (b"0 steps 1\n1 steps 1\n0 steps 1\n", 3),
     ];
     for (text, len) in rows {
-        let trace = read_trace(rt.alloc(), text)?;
+        let trace = trace_of(&rt, text)?;
         assert_eq!(rt; trace.len(), len, "of {text:?}");
         let back = trace.text(true)?;
         assert_eq!(rt; back.as_slice(), text);
@@ -40,10 +48,7 @@ fn full_texts_are_given_back(rt: HostRuntime) -> Result<(), Fail> {
 /// The records themselves.
 #[test]
 fn records_are_read(rt: HostRuntime) -> Result<(), Fail> {
-    let trace = read_trace(
-        rt.alloc(),
-        b"in -3\nin 7\n2 put 128 code 9\nw 66 -5\n2 fork 3\n",
-    )?;
+    let trace = trace_of(&rt, b"in -3\nin 7\n2 put 128 code 9\nw 66 -5\n2 fork 3\n")?;
     let put = Record::Did {
         t: 2,
         action: Action::Put(128, Entry::Code(9)),
@@ -106,7 +111,7 @@ fn refuses_at_the_first_line(rt: HostRuntime) -> Result<(), Fail> {
         (b"in 9223372036854775808\n", 1),
     ];
     for (text, line) in rows {
-        let found = match read_trace(rt.alloc(), text) {
+        let found = match trace_of(&rt, text) {
             Err(TraceRefusal::Line { n }) => Some(n),
             _ => None,
         };

@@ -1,11 +1,11 @@
 -- An item's line and the item determine each other.
-use Rattle.std.proofs.Common.{◌≡◌, ◌≢◌, ℕ, ℤ, ◌^◌, ◌<◌, ◌≤◌, true, false, Bool, List, [], ◌∷◌, ◌++◌, refl, sym, ap, ◌∙◌, arith, Option, None, Some, IfSome, MatchOption, codes, Bor}
-use Rattle.std.specs.Prelude.{decimal, nat_lt}
+use Rattle.std.proofs.Common.{◌≡◌, ◌≢◌, ℕ, ◌^◌, ◌<◌, ◌≤◌, true, false, Bool, List, [], ◌∷◌, ◌++◌, refl, sym, ap, ◌∙◌, arith, Option, None, Some, IfSome, codes}
+use Rattle.std.specs.Prelude.{decimal}
 use Rattle.std.specs.Fmt.{signed_decimal}
 use Rattle.std.specs.Option.{option_map}
 use Rattle.std.specs.Str.{all_ascii_digits, bytes_eq}
 use Rattle.std.proofs.lemmas.Bool.{cond-false, both_ways, false_from_ne_true, lt-ltb}
-use Rattle.std.proofs.lemmas.List.{append-nil, append_cancel_right}
+use Rattle.std.proofs.lemmas.List.{append_cancel_right}
 use Rattle.std.proofs.lemmas.Option.{some_pair_parts, none-some}
 use Rattle.std.proofs.lemmas.Slice.Eq.{bytes_eq-Decides}
 use Rattle.meaning.specs.declared.value.Entry.{Entry}
@@ -31,7 +31,7 @@ use Rattle.fields.specs.Theorems.{FieldLaws}
 use Rattle.trace.specs.Text.{entry_fields, did_fields, note_fields, place_fields, stop_field, flag_field, option_field}
 use Rattle.trace_reader.specs.declared.item.Item.{Item}
 use Rattle.trace_reader.specs.declared.item.Item.TheVariants.{Given, Recorded}
-use Rattle.trace_reader.specs.FullText.{IsEntry, IsFoundEntry, IsOptional, IsDeed, IsPlace, IsNote, IsRecord}
+use Rattle.trace_reader.specs.FullText.{IsFoundEntry, IsOptional, IsDeed, IsPlace, IsNote}
 use Rattle.trace_reader.specs.inner.Items.{item_text, IsItem, item_fields, IsReading}
 use Rattle.trace_reader.specs.inner.Reading.{based, tagged, found, flag, optional, placed, place, check_word, stop_word, steps, get, put, load, store, lock, alloc, free, look, fork, input, print, call, icall, start_at, start, returned, code_slot, code_own, stopped, inner_note, transfer, outside, region, memory, given, wrote, threaded, item, whole}
 

@@ -9,7 +9,7 @@ use Rattle.job.specs.Lines.{lines_of}
 use Rattle.fields.specs.Theorems.{FieldLaws}
 use Rattle.trace_reader.specs.declared.item.Item.{Item}
 use Rattle.trace_reader.specs.declared.item.Item.TheVariants.{Given, Recorded}
-use Rattle.trace_reader.specs.FullText.{full_lines, IsTrace, HasFullText, IsFirstBad, AreFullLines}
+use Rattle.trace_reader.specs.FullText.{full_lines, IsTrace, HasFullText, IsFirstBad}
 use Rattle.trace_reader.specs.inner.Items.{item_text, IsItem, MayFollow, IsAdded}
 use Rattle.trace_reader.proofs.ItemTexts.{one_item}
 use Rattle.trace_reader.proofs.FullLines.{trace_none, trace_given, trace_recorded, lines_given, lines_recorded, text_is_lines, Last, last_line, one_trace_of_lines}

@@ -1,7 +1,6 @@
 -- A trace is built of its records, each of which goes last, and what is answered of a text is all that it has.
-use Rattle.std.proofs.Common.{◌≡◌, ℕ, suc, ℤ, ◌+◌, ◌<◌, ◌≤◌, false, List, [], ◌∷◌, ◌++◌, length, take, get_or, refl, sym, ap, subst, ◌∙◌, arith, Result, Ok, Err, IfOk, IfErr}
+use Rattle.std.proofs.Common.{◌≡◌, ℕ, suc, ℤ, false, List, [], ◌∷◌, ◌++◌, refl, ap, arith, Result, Ok, Err, IfOk, IfErr}
 use Rattle.std.proofs.lemmas.Bool.{cond-false}
-use Rattle.std.proofs.lemmas.List.{length-take-le, get_or-take, get_or_read}
 use Rattle.meaning.specs.Action.{Fits}
 use Rattle.meaning.specs.declared.action.Action.{Action}
 use Rattle.meaning.specs.declared.action.Action.TheVariants as act
@@ -14,7 +13,7 @@ use Rattle.fields.specs.Theorems.{FieldLaws}
 use Rattle.trace.specs.Records.{TraceView, IsTold, IsRecord as IsPushed}
 use Rattle.trace_reader.specs.declared.error.TraceRefusal.{TraceRefusal}
 use Rattle.trace_reader.specs.declared.error.TraceRefusal.TheVariants as refusal
-use Rattle.trace_reader.specs.FullText.{IsDeed, IsRecord, IsTrace, join, HasFullText, IsFirstBad, IsRefusal, GivesBack, NamesLine}
+use Rattle.trace_reader.specs.FullText.{IsDeed, IsRecord, join, HasFullText, IsFirstBad, IsRefusal, GivesBack, NamesLine}
 use Rattle.trace_reader.specs.inner.Items.{Follows}
 use Rattle.trace_reader.proofs.FullLines.{one_trace, no_bad_line, one_bad}
 

@@ -1,5 +1,5 @@
 -- What a line of a full text is: an input or a record.
-use Rattle.std.specs.Prelude.{◌≡◌, ◌≢◌, ℕ, ℤ, ◌+◌, List, [], ◌∷◌, ◌++◌, length, map, codes, decimal, slice_index_or, false, Option, MatchOption, IfSome}
+use Rattle.std.specs.Prelude.{◌≡◌, ◌≢◌, ℕ, ℤ, ◌+◌, List, [], ◌∷◌, ◌++◌, length, codes, decimal, slice_index_or, false, Option, MatchOption, IfSome}
 use Rattle.std.specs.Fmt.{signed_decimal}
 use Rattle.meaning.specs.declared.small.record.Record.{Record}
 use Rattle.meaning.specs.declared.small.record.Record.TheVariants.{Steps, Did, Noted, Wrote}

@@ -1,5 +1,5 @@
 -- The readers of a line's fields, one for each form.
-use Rattle.std.specs.Prelude.{◌≡◌, ℕ, ℤ, zero, suc, cond, nat_lt, nat_le, Bool, true, false, List, [], ◌∷◌, codes, Option, Some, None}
+use Rattle.std.specs.Prelude.{ℕ, cond, nat_lt, Bool, true, false, List, codes, Option, Some, None}
 use Rattle.std.specs.Option.{option_map}
 use Rattle.std.specs.Str.{bytes_eq}
 use Rattle.meaning.specs.declared.value.Entry.{Entry}
@@ -15,8 +15,7 @@ use Rattle.meaning.specs.declared.note.Note.TheVariants as note
 use Rattle.meaning.specs.declared.small.record.Record.{Record}
 use Rattle.meaning.specs.declared.small.record.Record.TheVariants.{Steps, Did, Noted, Wrote}
 use Rattle.fields.specs.Numbers.{u32_of}
-use Rattle.fields.specs.Fields.{fields_of}
-use Rattle.fields.specs.Reading.{Fields, Reader, ◌>>=◌, ◌>>◌, pure, mismatch, field, said, number, small, word, end}
+use Rattle.fields.specs.Reading.{Reader, ◌>>=◌, ◌>>◌, pure, mismatch, field, said, number, small, word, end}
 use Rattle.trace_reader.specs.declared.item.Item.{Item}
 use Rattle.trace_reader.specs.declared.item.Item.TheVariants.{Given, Recorded}
 

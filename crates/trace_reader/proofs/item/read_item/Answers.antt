@@ -1,4 +1,4 @@
-use Rattle.std.proofs.Common.{◌∷◌, [], None, Some, ◌∙◌, sym}
+use Rattle.std.proofs.Common.{◌∷◌, [], None, Some}
 use Rattle.std.proofs.lemmas.Bool.Decides.{Decides-eqb}
 use Rattle.std.proofs.lemmas.Slice.Eq.{strip_suffix_is}
 use Rattle.trace_reader.proofs.ItemTexts.{reading_is, no_lf_reading}
