@@ -1,7 +1,9 @@
 //! A program, and its code.
 
 use c_types::{FnTy, Member, MemberList, Name, StructTable, Ty};
-use core_ir::{Function, GlobalList, GlobalVar, Instr, InstrList, Local, LocalList, Program, valid};
+use core_ir::{
+    Function, GlobalList, GlobalVar, Instr, InstrList, Local, LocalList, Program, valid,
+};
 use instrument::instrument;
 use machine::Code;
 use safe_locals::safe_all;
@@ -86,11 +88,25 @@ fn locals(alloc: Global) -> Result<LocalList, AllocError> {
 fn push_calls(body: &mut InstrList, alloc: Global) -> Result<(), AllocError> {
     body.push(Instr::AddrF { d: 0, f: 0 })?;
     body.push(Instr::AddrG { d: 1, g: 0 })?;
-    body.push(Instr::Touch { p: 1, ty: pointer_to_function(alloc)? })?;
-    body.push(Instr::Store { p: 1, a: 0, ty: pointer_to_function(alloc)? })?;
+    body.push(Instr::Touch {
+        p: 1,
+        ty: pointer_to_function(alloc)?,
+    })?;
+    body.push(Instr::Store {
+        p: 1,
+        a: 0,
+        ty: pointer_to_function(alloc)?,
+    })?;
     body.push(Instr::AddrG { d: 0, g: 0 })?;
-    body.push(Instr::Touch { p: 0, ty: pointer_to_function(alloc)? })?;
-    body.push(Instr::Load { d: 1, p: 0, ty: pointer_to_function(alloc)? })?;
+    body.push(Instr::Touch {
+        p: 0,
+        ty: pointer_to_function(alloc)?,
+    })?;
+    body.push(Instr::Load {
+        d: 1,
+        p: 0,
+        ty: pointer_to_function(alloc)?,
+    })?;
     body.push(Instr::CallInd {
         c: 1,
         args: Items::new(alloc),
@@ -104,16 +120,37 @@ fn push_calls(body: &mut InstrList, alloc: Global) -> Result<(), AllocError> {
 fn push_accesses(body: &mut InstrList, alloc: Global) -> Result<(), AllocError> {
     body.push(Instr::AddrG { d: 0, g: 1 })?;
     body.push(Instr::PtrConst { d: 1, p: 0, k: 0 })?;
-    body.push(Instr::Touch { p: 1, ty: Ty::Struct(0) })?;
-    body.push(Instr::Load { d: 2, p: 1, ty: Ty::Int })?;
+    body.push(Instr::Touch {
+        p: 1,
+        ty: Ty::Struct(0),
+    })?;
+    body.push(Instr::Load {
+        d: 2,
+        p: 1,
+        ty: Ty::Int,
+    })?;
     body.push(Instr::AddrL { d: 0, v: 1 })?;
-    body.push(Instr::Touch { p: 0, ty: ints(alloc, 1)? })?;
-    body.push(Instr::Store { p: 0, a: 2, ty: Ty::Int })?;
+    body.push(Instr::Touch {
+        p: 0,
+        ty: ints(alloc, 1)?,
+    })?;
+    body.push(Instr::Store {
+        p: 0,
+        a: 2,
+        ty: Ty::Int,
+    })?;
     body.push(Instr::AddrL { d: 0, v: 0 })?;
     body.push(Instr::PtrConst { d: 1, p: 0, k: 1 })?;
     body.push(Instr::Const { d: 2, v: 5 })?;
-    body.push(Instr::Touch { p: 1, ty: ints(alloc, 2)? })?;
-    body.push(Instr::Store { p: 1, a: 2, ty: Ty::Int })?;
+    body.push(Instr::Touch {
+        p: 1,
+        ty: ints(alloc, 2)?,
+    })?;
+    body.push(Instr::Store {
+        p: 1,
+        a: 2,
+        ty: Ty::Int,
+    })?;
     Ok(())
 }
 

@@ -103,10 +103,7 @@ fn wrong_place(alloc: Global, wrong: Wrong) -> Option<(usize, CodePlace)> {
                 kept: false,
             },
         )),
-        Wrong::NoFunction => Some((
-            1,
-            CodePlace::AddrF { d: 0, f: 2 },
-        )),
+        Wrong::NoFunction => Some((1, CodePlace::AddrF { d: 0, f: 2 })),
         _ => other_origin(alloc, wrong),
     }
 }
@@ -147,7 +144,9 @@ fn break_function(alloc: Global, main: &mut CodeFunction, wrong: Wrong) {
     if wrong == Wrong::LargeFrame {
         main.frame_units = 4;
     }
-    if let Some((at, place)) = wrong_place(alloc, wrong) && at < main.body.len() {
+    if let Some((at, place)) = wrong_place(alloc, wrong)
+        && at < main.body.len()
+    {
         main.body.set(at, place);
     }
 }
