@@ -18,7 +18,7 @@ enum Said {
 }
 
 /// What a place says.
-fn said(place: &CodePlace) -> Said {
+fn told_by(place: &CodePlace) -> Said {
     match place {
         CodePlace::AddrG {
             address,
@@ -77,7 +77,7 @@ fn places_say_what_their_types_decide(rt: HostRuntime) -> Result<(), Fail> {
     };
     assert_eq!(rt; main.body.len(), SAID.len());
     for (place, expected) in main.body.as_slice().iter().zip(SAID.iter()) {
-        assert_eq!(rt; said(place), *expected);
+        assert_eq!(rt; told_by(place), *expected);
     }
     assert_eq!(rt; main.safe_units, 3);
     assert!(rt; valid_code(&code));

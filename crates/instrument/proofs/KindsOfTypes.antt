@@ -1,6 +1,5 @@
 -- The kind of a type, by its outer form.
-use Rattle.std.proofs.Common.{◌≡◌, ◌∙◌, Bool, true, false, is_some, refl, sym, ap}
-use Rattle.std.proofs.lemmas.Bool.{both_ways}
+use Rattle.std.proofs.Common.{◌≡◌, true, false, is_some, refl}
 use Rattle.c_types.specs.declared.ty.Ty.{Ty, out-Ty}
 use Rattle.c_types.specs.declared.ty.Ty.TheOpen.{Ty-F}
 use Rattle.c_types.specs.Kinds.{Outer, is_char, is_char_at, is_pointer, target_at, target_of}

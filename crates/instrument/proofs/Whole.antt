@@ -1,5 +1,5 @@
 -- Functions and programs, from their parts.
-use Rattle.std.proofs.Common.{◌≡◌, ◌∙◌, ℕ, List, length, map, Some, slice_get, refl, sym, ap}
+use Rattle.std.proofs.Common.{◌≡◌, List, length}
 use Rattle.c_types.specs.declared.ty.Ty.{Ty}
 use Rattle.core_ir.specs.declared.program.Function.{Function}
 use Rattle.core_ir.specs.declared.program.Program.{Program}
@@ -8,10 +8,9 @@ use Rattle.sensitivity.specs.Theorems.{TypesHaveClasses}
 use Rattle.sensitivity.specs.declared.class.Class.{Class}
 use Rattle.machine.specs.declared.code.Code.{Code}
 use Rattle.machine.specs.declared.code.CodeFunction.{CodeFunction}
-use Rattle.machine.specs.declared.code.CodePlace.{CodePlace}
-use Rattle.machine.specs.Stands.{FunctionStands, Stands, safe_units}
+use Rattle.machine.specs.Stands.{Stands, safe_units}
 use Rattle.icode.specs.Sites.{LocalsStand}
-use Rattle.instrument.specs.inner.Places.{AreClassesOf, AreMade, AreStanding, StandsBy}
+use Rattle.instrument.specs.inner.Places.{AreMade, AreStanding, StandsBy}
 
 -- the parts of a function's code
 pub function_stands : (program : Program) (f : Function) (classes : List Class) (c : CodeFunction)

@@ -1,6 +1,4 @@
 use Rattle.std.proofs.Common.{refl}
-use Rattle.machine.specs.declared.code.Code.{Code}
-use Rattle.machine.specs.Stands.{Stands}
 use Rattle.instrument.proofs.Whole.{program_stands}
 use Rattle.instrument.proofs.program.instrument.Goals as goal
 
