@@ -155,8 +155,8 @@ module _ (names : List (List ℕ)) where
 
 all-derived : {names : List (List ℕ)} {ts : Kinds} {items : List Item} {after : List (List ℕ)} → ItemsRead names ts items after → list_all filled.item_fills items ≡ true
 all-derived (ItemsRead.none names ts items after split same end) = ap (list_all filled.item_fills) same
-all-derived (ItemsRead.more names ts items after i others h new its os deep split same read more) =
-    ap (list_all filled.item_fills) same ∙ both_true (filled.item_fills i) (list_all filled.item_fills others) (whole_item-derived names read) (all-derived more)
+all-derived (ItemsRead.more names ts items after i others h new its os deep split same read behind) =
+    ap (list_all filled.item_fills) same ∙ both_true (filled.item_fills i) (list_all filled.item_fills others) (whole_item-derived names read) (all-derived behind)
 
 pub derived-filled : DerivedSourcesAreFilled
 derived-filled ts s read = all-derived read.1
