@@ -18,3 +18,4 @@ mod Tests
 mod Functions
 mod Units
 mod Laws
+mod Derived

@@ -33,28 +33,28 @@ use Rattle.c_typing_types.proofs.Walks.{expr-finds}
 
 -- ---- what stands in braces in statements
 
-item_fills : BlockItem → Bool
+pub item_fills : BlockItem → Bool
 item_fills = fold-BlockItem Bool Bool Bool Bool filled.block_item_step filled.stmt_step filled.block_step filled.for_step
 
-stmt_fills : Stmt → Bool
+pub stmt_fills : Stmt → Bool
 stmt_fills = fold-Stmt Bool Bool Bool Bool filled.block_item_step filled.stmt_step filled.block_step filled.for_step
 
-for_fills : ForLoop → Bool
+pub for_fills : ForLoop → Bool
 for_fills = fold-ForLoop Bool Bool Bool Bool filled.block_item_step filled.stmt_step filled.block_step filled.for_step
 
-item-filled : (node : StatementNode PlainStatements BlockItem-F) → item_fills (roll-BlockItem node) ≡ filled.block_item_step (map-BlockItem _ _ _ _ _ _ _ _ item_fills stmt_fills block_fills for_fills node)
+pub item-filled : (node : StatementNode PlainStatements BlockItem-F) → item_fills (roll-BlockItem node) ≡ filled.block_item_step (map-BlockItem _ _ _ _ _ _ _ _ item_fills stmt_fills block_fills for_fills node)
 unfolding item_fills stmt_fills block_fills for_fills
 item-filled node = fold-roll-BlockItem Bool Bool Bool Bool filled.block_item_step filled.stmt_step filled.block_step filled.for_step node
 
-stmt-filled : (node : StatementNode PlainStatements Stmt-F) → stmt_fills (roll-Stmt node) ≡ filled.stmt_step (map-Stmt _ _ _ _ _ _ _ _ item_fills stmt_fills block_fills for_fills node)
+pub stmt-filled : (node : StatementNode PlainStatements Stmt-F) → stmt_fills (roll-Stmt node) ≡ filled.stmt_step (map-Stmt _ _ _ _ _ _ _ _ item_fills stmt_fills block_fills for_fills node)
 unfolding item_fills stmt_fills block_fills for_fills
 stmt-filled node = fold-roll-Stmt Bool Bool Bool Bool filled.block_item_step filled.stmt_step filled.block_step filled.for_step node
 
-block-filled : (node : StatementNode PlainStatements Block-F) → block_fills (roll-Block node) ≡ filled.block_step (map-Block _ _ _ _ _ _ _ _ item_fills stmt_fills block_fills for_fills node)
+pub block-filled : (node : StatementNode PlainStatements Block-F) → block_fills (roll-Block node) ≡ filled.block_step (map-Block _ _ _ _ _ _ _ _ item_fills stmt_fills block_fills for_fills node)
 unfolding item_fills stmt_fills block_fills for_fills
 block-filled node = fold-roll-Block Bool Bool Bool Bool filled.block_item_step filled.stmt_step filled.block_step filled.for_step node
 
-for-filled : (node : StatementNode PlainStatements ForLoop-F) → for_fills (roll-ForLoop node) ≡ filled.for_step (map-ForLoop _ _ _ _ _ _ _ _ item_fills stmt_fills block_fills for_fills node)
+pub for-filled : (node : StatementNode PlainStatements ForLoop-F) → for_fills (roll-ForLoop node) ≡ filled.for_step (map-ForLoop _ _ _ _ _ _ _ _ item_fills stmt_fills block_fills for_fills node)
 unfolding item_fills stmt_fills block_fills for_fills
 for-filled node = fold-roll-ForLoop Bool Bool Bool Bool filled.block_item_step filled.stmt_step filled.block_step filled.for_step node
 

@@ -1,6 +1,8 @@
 -- What holds of the types in the typed form of a source.
 use Rattle.std.specs.Prelude.{◌≡◌, ◌≤◌, ℕ, IsTrue, length, Some}
 use Rattle.c_tree.specs.declared.statement.Unit.{Unit as Source}
+use Rattle.c_tree.specs.Marks.{Kinds}
+use Rattle.c_tree.specs.Statements.{SourceReads}
 use Rattle.c_types.specs.declared.ty.FnTy.{FnTy}
 use Rattle.c_types.specs.declared.ty.Ty.{Ty}
 use Rattle.c_types.specs.declared.ty.Ty.TheVariants as ty
@@ -26,6 +28,10 @@ pub record FunctionsAreDeclarable : Type 0 where
   -- what that says of a function's type, and of what is called
   pub function : (f : FnTy) → IsTrue (functions_fit (ty.Function f)) → IsDeclarable f
   pub callee : (x : TypedExpr) (f : FnTy) → IsTrue (functions_fit (type_of x)) → called_type x ≡ Some f → IsDeclarable f
+
+-- a source that the grammar derives has no empty braces
+abbrev pub DerivedSourcesAreFilled : Type 0
+DerivedSourcesAreFilled = (ts : Kinds) (s : Source) → SourceReads ts s → IsTrue (is_filled s)
 
 -- where no braces of the source are empty, each bound in a type of it is at least 1, and so are the units of such a type
 pub record BoundsAreGiven : Type 0 where

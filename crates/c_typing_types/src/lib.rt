@@ -3,4 +3,6 @@
 
 mod theorems;
 
-pub use theorems::{bounds_are_given, functions_are_declarable, types_name_structs};
+pub use theorems::{
+    bounds_are_given, derived_sources_are_filled, functions_are_declarable, types_name_structs,
+};

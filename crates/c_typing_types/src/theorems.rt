@@ -1,7 +1,7 @@
 //! What holds of the types in the typed form of every source.
 
-ghost use Rattle.c_typing_types.specs.Theorems.{BoundsAreGiven, FunctionsAreDeclarable};
-ghost use Rattle.c_typing_types.specs.Theorems.{TypesNameStructs};
+ghost use Rattle.c_typing_types.specs.Theorems.{BoundsAreGiven, DerivedSourcesAreFilled};
+ghost use Rattle.c_typing_types.specs.Theorems.{FunctionsAreDeclarable, TypesNameStructs};
 
 /// Each type in the typed form of a source names structs of its table alone, of which there are at most 1,024.
 pub fn types_name_structs()
@@ -17,4 +17,9 @@ pub fn functions_are_declarable()
 /// are so has a unit at least, if it has units.
 pub fn bounds_are_given()
     ensures { BoundsAreGiven }
+{}
+
+/// A source that the grammar derives has no empty braces, as `bounds_are_given` asks.
+pub fn derived_sources_are_filled()
+    ensures { DerivedSourcesAreFilled }
 {}
