@@ -48,9 +48,9 @@ fn the_full_text_begins_with_the_inputs(rt: HostRuntime) -> Result<(), Fail> {
         note: Note::End,
     });
     let text = trace.text(true)?;
-    assert!(rt; text.as_slice() == b"in 5\nin -6\n0 steps 3\n0 print 7\n0 end\n");
+    assert!(rt; text.as_slice() == b"in 5\nin -6\n0 steps 3\n0 print 7\n0 end\n".as_slice());
     let text = trace.text(false)?;
-    assert!(rt; text.as_slice() == b"0 print 7\n0 end\n");
+    assert!(rt; text.as_slice() == b"0 print 7\n0 end\n".as_slice());
     Ok(())
 }
 
