@@ -14,7 +14,7 @@ use Rattle.machine.specs.Trace.{traced}
 use Rattle.thread_engine.specs.State.{ThreadState}
 use Rattle.system.proofs.SeatLemmas.{first_of, get_map, got_of_push, got_of_set, map_set}
 use Rattle.system.specs.declared.memories.Memories.{Memories}
-use Rattle.system.specs.declared.machine.System.{System}
+use Rattle.system.specs.declared.run.System.{System}
 use Rattle.system.specs.inner.Seats.{Keeps, first_threads, setting_with, state_with}
 use Rattle.system.specs.State.{IsSeat, IsSystemOf, thread_of}
 

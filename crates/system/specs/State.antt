@@ -7,7 +7,7 @@ use Rattle.machine.specs.Frames.{Thread, Stopped}
 use Rattle.machine.specs.Run.{Setting, State}
 use Rattle.thread_engine.specs.Sound.{IsSound, most_slots}
 use Rattle.thread_engine.specs.State.{ThreadState}
-use Rattle.system.specs.declared.machine.System.{System}
+use Rattle.system.specs.declared.run.System.{System}
 
 -- a thread, or one that was cut off
 abbrev pub thread_of : Option ThreadState → Thread Value

@@ -2,9 +2,9 @@
 //! from ordinary memory.
 #![tactic(auto)]
 
-mod machine;
 mod memories;
 mod record;
+mod run;
 mod turn;
 
-pub use machine::System;
+pub use run::System;

@@ -3,7 +3,7 @@ use Rattle.std.specs.Vec.{with_item}
 use Rattle.system.specs.State.{thread_of}
 use Rattle.system.specs.inner.Seats.{state_with}
 use Rattle.system.proofs.Systems.{cut_off, cut_recorded, found, system_after}
-use Rattle.system.proofs.machine.System.cut.Goals as goal
+use Rattle.system.proofs.run.System.cut.Goals as goal
 
 pub returns-clause-ok : goal.returns-clause-ok
 returns-clause-ok c = λ code.

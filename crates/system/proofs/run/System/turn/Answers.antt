@@ -3,7 +3,7 @@ use Rattle.std.specs.Vec.{with_item}
 use Rattle.system.specs.State.{thread_of}
 use Rattle.system.specs.inner.Seats.{state_with}
 use Rattle.system.proofs.Systems.{found, system_after, turn_recorded, turned}
-use Rattle.system.proofs.machine.System.turn.Goals as goal
+use Rattle.system.proofs.run.System.turn.Goals as goal
 
 pub returns-clause-ok : goal.returns-clause-ok
 returns-clause-ok c =

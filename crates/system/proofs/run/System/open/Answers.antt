@@ -1,6 +1,6 @@
 use Rattle.std.proofs.Common.{refl}
 use Rattle.system.proofs.Systems.{all_threads}
-use Rattle.system.proofs.machine.System.open.Goals as goal
+use Rattle.system.proofs.run.System.open.Goals as goal
 
 pub returns-clause-state : goal.returns-clause-state
 returns-clause-state c =

@@ -2,7 +2,7 @@ use Rattle.std.proofs.Common.{◌≡◌, length, map}
 use Rattle.system.specs.inner.Seats.{first_threads}
 use Rattle.system.specs.State.{thread_of}
 use Rattle.system.proofs.Systems.{AreSeats}
-use Rattle.system.proofs.machine.open_threads.Given as goal
+use Rattle.system.proofs.run.open_threads.Given as goal
 
 -- the threads so far
 abbrev pub invariant-loop-n : goal.invariant-loop-n

@@ -2,7 +2,7 @@ use Rattle.std.proofs.Common.{◌≡◌, ◌+◌, [], ◌∷◌, ◌++◌, lengt
 use Rattle.std.proofs.lemmas.List.{length_push}
 use Rattle.system.specs.State.{thread_of}
 use Rattle.system.proofs.Systems.{opened_more, seats_push}
-use Rattle.system.proofs.machine.open_threads.Goals as goal
+use Rattle.system.proofs.run.open_threads.Goals as goal
 
 pub loop-n-preserved : goal.loop-n-preserved
 loop-n-preserved c =

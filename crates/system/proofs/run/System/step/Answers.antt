@@ -1,6 +1,6 @@
 use Rattle.std.proofs.Common.{SFits, w64, rules}
 use Rattle.std.proofs.lemmas.Int.{to_z-of_z}
-use Rattle.system.proofs.machine.System.step.Goals as goal
+use Rattle.system.proofs.run.System.step.Goals as goal
 
 pub returns-in-Corrupt-clause-ok : goal.returns-in-Corrupt-clause-ok
 returns-in-Corrupt-clause-ok c =

@@ -3,7 +3,7 @@ use Rattle.std.proofs.lemmas.List.{take_more}
 use Rattle.meaning.specs.declared.event.Event.TheVariants.{Turn}
 use Rattle.system.specs.State.{setting_of, state_of}
 use Rattle.system.proofs.RunsInParts.{state_after-more, traced-more}
-use Rattle.system.proofs.machine.System.run.Goals as goal
+use Rattle.system.proofs.run.System.run.Goals as goal
 
 pub loop-event-preserved : goal.loop-event-preserved
 loop-event-preserved c =

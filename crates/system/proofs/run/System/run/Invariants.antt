@@ -2,7 +2,7 @@ use Rattle.std.proofs.Common.{◌≡◌, take}
 use Rattle.machine.specs.Run.{steps_from, state_after}
 use Rattle.machine.specs.Trace.{traced}
 use Rattle.system.specs.State.{state_of, setting_of, threads_of, IsSystemOf}
-use Rattle.system.proofs.machine.System.run.Given as goal
+use Rattle.system.proofs.run.System.run.Given as goal
 
 -- the events so far are run and recorded
 abbrev pub invariant-loop-event : goal.invariant-loop-event
