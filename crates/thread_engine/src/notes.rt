@@ -60,9 +60,10 @@ impl Notes {
         self.as_slice().len()
     }
 
-    /// The notes in order.
+    /// The notes in order, at most 10.
     pub fn as_slice(&self) -> &[Note]
-        ensures { result.now ≡ self.now }
+        ensures notes { result.now ≡ self.now }
+        ensures few { length result.now ≤ 10 }
     {
         &self.notes[..self.len]
     }
