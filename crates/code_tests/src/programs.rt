@@ -1,5 +1,8 @@
 //! A program, and its code.
 
+ghost use Rattle.std.specs.Prelude.{IsTrue};
+ghost use Rattle.core_ir.specs.Valid.{IsValid};
+
 use c_types::{FnTy, Member, MemberList, Name, StructTable, Ty};
 use core_ir::{
     Function, GlobalList, GlobalVar, Instr, InstrList, Local, LocalList, Program, valid,
