@@ -3,3 +3,4 @@ pub mod Expressions
 pub mod Initialisers
 pub mod Statements
 pub mod Sources
+pub mod Types

@@ -28,7 +28,7 @@ use Rattle.c_rules.specs.declared.place.Place.{Place}
 use Rattle.c_expr_typing.specs.declared.layered.LayeredDeclarator.{LayeredDeclarator}
 use Rattle.c_expr_typing.specs.Trees.{walked}
 use Rattle.c_typing_types.specs.Filled.{are_some, declares, spec_fills}
-use Rattle.c_typing_types.specs.Types.{SpecTypes}
+use Rattle.c_typed_rows.specs.Types.{SpecTypes}
 use Rattle.c_typing_types.proofs.Good.{Fine, Good}
 use Rattle.c_typing_types.proofs.Nodes.{Claims}
 use Rattle.c_typing_types.proofs.Rules.{Ready, ReadyWord}

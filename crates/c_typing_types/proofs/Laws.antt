@@ -1,13 +1,14 @@
 -- Each type of a source passes the tests.
-use Rattle.std.proofs.Common.{◌∙◌, length, refl, sym, le_refl}
+use Rattle.std.proofs.Common.{◌∙◌, ℕ, length, refl, sym, le_refl}
 use Rattle.c_operators.specs.Operators.{type_of, value_type}
 use Rattle.c_rules.specs.Rules.{called_type}
-use Rattle.c_typing_types.specs.Theorems.{BoundsAreGiven, FunctionsAreDeclarable, TypesNameStructs}
+use Rattle.c_typing_types.specs.Theorems.{BoundsAreGiven, FunctionsAreDeclarable, TypesAreWellMade, TypesNameStructs}
 use Rattle.c_typing_types.proofs.Functions.{declarable, functions}
-use Rattle.c_typing_types.proofs.Good.{decay-fine}
+use Rattle.c_typing_types.proofs.Good.{Good, decay-fine}
 use Rattle.c_typing_types.proofs.Known.{callee-fine}
 use Rattle.c_typing_types.proofs.Sources.{source-passes}
 use Rattle.c_typing_types.proofs.Tests.{bounds, names}
+use Rattle.c_typing_types.proofs.Together.{together}
 use Rattle.c_typing_types.proofs.Units.{units-positive}
 
 pub structs-named : TypesNameStructs
@@ -29,3 +30,9 @@ bounds-given = record {
   types = λ s t is filled. (source-passes (bounds (length t.structs)) s t is filled (le_refl (length t.structs))).items;
   units = λ s t is filled u bounded. units-positive (length t.structs) t.structs (source-passes (bounds (length t.structs)) s t is filled (le_refl (length t.structs))).structs u bounded;
 }
+
+abbrev all_three : ℕ → Good
+all_three n = together (names n) (together (functions n) (bounds n) refl) refl
+
+pub types-well_made : TypesAreWellMade
+types-well_made s t is filled = (source-passes (all_three (length t.structs)) s t is filled (le_refl (length t.structs))).items

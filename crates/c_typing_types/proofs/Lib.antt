@@ -19,3 +19,4 @@ mod Functions
 mod Units
 mod Laws
 mod Derived
+mod Together

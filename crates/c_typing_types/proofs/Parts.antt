@@ -51,7 +51,7 @@ use Rattle.c_operators.specs.Operators.{constant_of}
 use Rattle.c_expr_typing.specs.declared.layered.LayeredDeclarator.{LayeredDeclarator}
 use Rattle.c_expr_typing.specs.Trees.{Found, OfMember, body_tag, constant_bound, declared, is_bound, layers_inside, member_declarators, members, named_type, one_member, spec_step, tree_inside, type_name, walked}
 use Rattle.c_typing_types.specs.Filled.{any_declares, are_some, declares, spec_fills, spec_fills_at}
-use Rattle.c_typing_types.specs.Types.{DeclaredTypes, SpecTypes}
+use Rattle.c_typed_rows.specs.Types.{DeclaredTypes, SpecTypes}
 use Rattle.c_typing_types.proofs.Claimed.{FindsAbstract, FindsDeclarator, FindsDirect, FindsMember, FindsParam, FindsParams, FindsSpec, FindsSuffix, FindsTypeWord, ReadyAbstract, ReadyDeclarator, ReadyDirect, ReadyMember, ReadyParam, ReadyParams, ReadySpec, ReadySuffix, claims}
 use Rattle.c_typing_types.proofs.Good.{Allowed, Fine, Good, ParamFine, both}
 use Rattle.c_typing_types.proofs.Known.{bound-fine, defined-fine, last-held, meaning-fine, tagged-fine}

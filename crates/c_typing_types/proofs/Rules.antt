@@ -35,7 +35,7 @@ use Rattle.c_rules.specs.declared.place.Place.TheVariants.{Callee, Value}
 use Rattle.c_operators.specs.Constants.{of_unary}
 use Rattle.c_operators.specs.Operators.{FormLayer, chosen, constant_of, form_of, is_assignable, is_integer_value, is_lvalue, is_scalar_value, operated, type_of, typed, value_type}
 use Rattle.c_rules.specs.Rules.{address, all_convert, arithmetic, arrow, assigned_by, assigned_type, assignment, binary, call, called, called_type, cast, conditional, conditional_type, dereference, dereferenced, has_address, identifier, identifier_by, index, indexed, mark_addressed, mark_at, may_be_cast, means_function, member, member_behind, member_found, member_of, mentioned, mentioned_by, named, negation, number, one, operand_rule, plain, pointed, size_of_type, size_of_value, stepped, takes, takes_type, text, unary_of, updated, variable}
-use Rattle.c_typing_types.specs.Types.{ExprTypes}
+use Rattle.c_typed_rows.specs.Types.{ExprTypes}
 use Rattle.c_typing_types.proofs.Good.{Fine, Good, built_in-fine, chosen-gives, decay-fine, function_type-fine, operated-gives, pointer-fine, target-fine}
 use Rattle.c_typing_types.proofs.Known.{addressed-fine, behind_by, callee-fine, known-fine, marked-fine, meaning-fine, member-fine}
 use Rattle.c_typing_types.proofs.Steps.{Fit, Goes, MeaningFine, after, changed, ends, finds, found-goes, longer-same, never, ruled, under}

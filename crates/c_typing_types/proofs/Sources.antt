@@ -33,7 +33,7 @@ use Rattle.c_typing.specs.Functions.{bind_own, define_function, defined_type, fu
 use Rattle.c_typing.specs.Sources.{Verdict, at_item, finished_behind, finished_by, function_item, items_behind, typed_item, typed_items, typed_source, typedef_item, with_first}
 use Rattle.c_typing.specs.Statements.{typed_block}
 use Rattle.c_typing_types.specs.Filled.{block_fills, is_filled, item_fills, spec_fills}
-use Rattle.c_typing_types.specs.Types.{BlockTypes, DeclaredTypes, FunctionTypes, ItemTypes, SourceTypes}
+use Rattle.c_typed_rows.specs.Types.{BlockTypes, DeclaredTypes, FunctionTypes, ItemTypes, SourceTypes}
 use Rattle.c_typing_types.proofs.Claimed.{ReadyDeclarator, ReadySpec}
 use Rattle.c_typing_types.proofs.Declarations.{decl-goes, free-both, function-goes, type_name-goes, variable-goes}
 use Rattle.c_typing_types.proofs.Good.{Fine, FunctionFine, Good, both, called-fine, function_type-fine}

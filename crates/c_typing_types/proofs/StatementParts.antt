@@ -12,7 +12,7 @@ use Rattle.c_typed.specs.declared.statement.TypedForLoop.{TypedForLoop, every-Ty
 use Rattle.c_typed.specs.declared.statement.TypedFullExpr.{TypedFullExpr}
 use Rattle.c_typed.specs.declared.statement.TypedStmt.{TypedStmt, every-TypedStmt, every_made-TypedStmt}
 use Rattle.c_typed.specs.declared.statement.TypedStmt.TheVariants as stmt
-use Rattle.c_typing_types.specs.Types.{BlockItemLevel, BlockTypes, ForInitTypes, ForLevel, OptionalTypes, StmtLevel}
+use Rattle.c_typed_rows.specs.Types.{BlockItemLevel, BlockTypes, ForInitTypes, ForLevel, OptionalTypes, StmtLevel}
 use Rattle.c_typing_types.proofs.TypedParts.{of_held}
 
 module _ (fits : Ty → Bool) where

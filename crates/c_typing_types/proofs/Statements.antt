@@ -23,7 +23,7 @@ use Rattle.c_operators.specs.Operators.{converts, is_scalar_value}
 use Rattle.c_typing.specs.Statements.{block_item_step, block_items, block_step, branches, condition, for_head, for_step, full, jump, optional, optional_condition, return_walked, returned_rules, stmt_step, typed_for_init, walked_statements}
 use Rattle.c_typing_types.specs.Filled as filled
 use Rattle.c_typing_types.specs.Filled.{block_fills, for_init_fills}
-use Rattle.c_typing_types.specs.Types.{BlockTypes, ForInitTypes, FullTypes, OptionalTypes}
+use Rattle.c_typed_rows.specs.Types.{BlockTypes, ForInitTypes, FullTypes, OptionalTypes}
 use Rattle.c_typing_types.proofs.Declarations.{decl-goes, free-both}
 use Rattle.c_typing_types.proofs.Good.{Good}
 use Rattle.c_typing_types.proofs.StatementParts as parts

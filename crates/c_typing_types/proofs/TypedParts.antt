@@ -27,7 +27,7 @@ use Rattle.c_typed.specs.declared.expression.TypedSpec.TheVariants as spec
 use Rattle.c_typed.specs.declared.expression.TypedSuffix.TheVariants as suffix
 use Rattle.c_typed.specs.declared.expression.TypedDirect.TheOpen.{TypedDirect-F, TypedForm-F, TypedParam-F, TypedParams-F, TypedSpec-F, TypedSuffix-F}
 use Rattle.c_operators.specs.Operators.{typed}
-use Rattle.c_typing_types.specs.Types.{DeclaredLevel, DeclaredTypes, ExprLevel, ExprTypes, ParamLevel, SpecTypes, TypeWordLevel}
+use Rattle.c_typed_rows.specs.Types.{DeclaredLevel, DeclaredTypes, ExprLevel, ExprTypes, ParamLevel, SpecTypes, TypeWordLevel}
 
 module _ (fits : Ty → Bool) where
   pub DirectTypes : TypedDirect → Type 0

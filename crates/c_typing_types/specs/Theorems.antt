@@ -15,7 +15,8 @@ use Rattle.c_operators.specs.Operators.{type_of}
 use Rattle.c_rules.specs.Rules.{called_type}
 use Rattle.c_typing.specs.Theorems.{HasForm}
 use Rattle.c_typing_types.specs.Filled.{is_filled}
-use Rattle.c_typing_types.specs.Types.{IsDeclarable, SourceTypes, functions_fit, has_bounds}
+use Rattle.c_typed_rows.specs.Types.{SourceTypes}
+use Rattle.c_typing_types.specs.Types.{IsDeclarable, functions_fit, has_bounds, is_well_made}
 
 -- each type in the typed form of a source names structs of its table alone, of which there are at most so many as tags may be
 pub record TypesNameStructs : Type 0 where
@@ -45,3 +46,8 @@ pub record BoundsAreGiven : Type 0 where
       → (n : ℕ)
       → exact_units t.structs u ≡ Some n
       → 1 ≤ n
+
+-- where no braces of a source are empty, each type in its typed form names structs of its table, has functions that declarators
+-- make, and bounds that are at least 1
+abbrev pub TypesAreWellMade : Type 0
+TypesAreWellMade = (s : Source) (t : Typed) → HasForm s t → IsTrue (is_filled s) → SourceTypes (is_well_made (length t.structs)) t

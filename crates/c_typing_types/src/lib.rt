@@ -4,5 +4,6 @@
 mod theorems;
 
 pub use theorems::{
-    bounds_are_given, derived_sources_are_filled, functions_are_declarable, types_name_structs,
+    bounds_are_given, derived_sources_are_filled, functions_are_declarable, types_are_well_made,
+    types_name_structs,
 };

@@ -1,7 +1,7 @@
 //! What holds of the types in the typed form of every source.
 
 ghost use Rattle.c_typing_types.specs.Theorems.{BoundsAreGiven, DerivedSourcesAreFilled};
-ghost use Rattle.c_typing_types.specs.Theorems.{FunctionsAreDeclarable, TypesNameStructs};
+ghost use Rattle.c_typing_types.specs.Theorems.{FunctionsAreDeclarable, TypesAreWellMade, TypesNameStructs};
 
 /// Each type in the typed form of a source names structs of its table alone, of which there are at most 1,024.
 pub fn types_name_structs()
@@ -22,4 +22,9 @@ pub fn bounds_are_given()
 /// A source that the grammar derives has no empty braces, as `bounds_are_given` asks.
 pub fn derived_sources_are_filled()
     ensures { DerivedSourcesAreFilled }
+{}
+
+/// Where no braces of a source are empty, each type in its typed form passes the tests of all three laws at once.
+pub fn types_are_well_made()
+    ensures { TypesAreWellMade }
 {}

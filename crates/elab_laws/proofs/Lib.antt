@@ -1,0 +1,14 @@
+mod Lifted
+mod GoodRows
+mod GoodChoices
+mod GoodAddresses
+mod GoodCalls
+mod Callees
+mod GoodOperators
+mod GoodBuiltIns
+mod Numbers
+mod FittingRows
+mod FittingCalls
+mod InRange
+mod TouchingRows
+mod TouchedLoads

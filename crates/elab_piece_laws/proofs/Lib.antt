@@ -1,0 +1,6 @@
+mod LiftedPieces
+mod GoodStatements
+mod GoodBodies
+mod ListedStatements
+mod ListedKinds
+mod NumberedLines

@@ -1,0 +1,20 @@
+use Rattle.std.proofs.Common.{[]}
+use Rattle.elab_pieces.specs.Program.{program_of}
+use Rattle.elab_valid.proofs.LimitsHold.{limits-hold}
+use Rattle.elab_valid.proofs.ProgramsValid.{program-valid}
+use Rattle.elab_valid.proofs.theorems.programs_are_valid.Goals as goal
+
+pub returns : goal.returns
+returns c t test typed fit within = program-valid (record {
+  base = record {
+    rows = c.rows_are_good.ensures;
+    parts = c.parts_compose.ensures;
+    fit = c.rows_fit.ensures;
+    touch = c.rows_touch.ensures;
+    equal = c.same_is_equality.ensures;
+    known = [];
+  };
+  good = c.statements_are_good.ensures;
+  fit = c.statements_fit.ensures;
+  numbers = c.lines_are_numbered.ensures;
+}) t test typed fit (limits-hold (program_of t) within)
