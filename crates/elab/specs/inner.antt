@@ -1,0 +1,4 @@
+pub mod Bodies
+pub mod Jumps
+pub mod Leaves
+pub mod Programs

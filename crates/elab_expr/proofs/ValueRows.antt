@@ -1,0 +1,243 @@
+-- Rows of whole expressions, step by step: what stands behind a value that is there, and where a row stops.
+use Rattle.std.proofs.Common.{◌≡◌, ◌∙◌, ℕ, ◌+◌, List, [], ◌∷◌, ◌++◌, length, ap, sym, refl, subst, arith, append_assoc, length-append, Result, Ok, Err}
+use Rattle.c_types.specs.declared.structs.StructDef.{StructDef}
+use Rattle.c_types.specs.declared.ty.Ty.{Ty, out-Ty}
+use Rattle.c_tree.specs.declared.operator.BinaryOperator.{BinaryOperator}
+use Rattle.c_tree.specs.declared.operator.BinaryOperator.TheVariants as binary
+use Rattle.core_ir.specs.declared.instr.Instr.TheVariants.{PtrConst, SetLocal, Store, Touch, Unary}
+use Rattle.core_ir.specs.declared.operator.Operator.{Operator}
+use Rattle.elab_rows.specs.Addresses.{Lvalue, address_of, assigned, lvalue_value, member_address, pointing, restored_made, stored_made}
+use Rattle.elab_expr.specs.Emits.{Outcome, Stops, code_of}
+use Rattle.elab_rows.specs.Made.{Code, Made, behind, converted, held}
+use Rattle.elab_rows.specs.Rows.{Operand, converted_to, last_code, operand_type, operated, operated_type, operation_code, operation_of, pointer_plus, unary_code}
+use Rattle.elab_rows.specs.Values.{Part, assigned_by, converted_part, new_value, old_operand, operand}
+use Rattle.elab_expr.specs.declared.emitter.Emitter.{Emitter}
+use Rattle.elab_expr.specs.declared.emitter.Trouble.{Trouble}
+use Rattle.elab_rows.specs.declared.named.Named.{Named}
+use Rattle.elab_rows.specs.declared.named.Named.TheVariants as named
+use Rattle.elab_rows.specs.declared.operation.Last.TheVariants as last
+use Rattle.elab_rows.specs.declared.operation.Operation.{Operation}
+use Rattle.elab_rows.specs.declared.scope.Scope.{Scope}
+use Rattle.elab_expr.specs.inner.Behind.{BeginsWith, from_root, over, prefixed}
+use Rattle.elab_expr.proofs.Operands.{behind_value, converted_over, extended_over, followed_over, last_first, last_second, pointing_over, stops_front, stops_value, then_made, value_over}
+
+-- ---- one row over another
+
+pub over_over : (f g : Code → Code) → BeginsWith f → BeginsWith g → BeginsWith (λ a. f (g a))
+over_over f g hf hg a place register slot =
+    let x = a place register slot in
+    let y = behind place x (g (held x.result)) in
+    let gone : (λ p r s. g a p r s) ≡ over a g = λ i p r s. hg a p r s i in
+    let first : f (g a) place register slot ≡ f (over a g) place register slot = ap (λ h. f h place register slot) gone in
+    let second : f (over a g) place register slot ≡ over (over a g) f place register slot = hf (over a g) place register slot in
+    let n : place + length (x.code ++ y.code) ≡ (place + length x.code) + length y.code = omega (arith, length-append x.code y.code) in
+    let z : ℕ → Made = λ p. f (held y.result) p y.register y.slot in
+    let third : over (over a g) f place register slot ≡ prefixed x (prefixed y (z ((place + length x.code) + length y.code))) =
+    λ i. record (z (n i)) { code = append_assoc x.code y.code (z (n i)).code i } in
+    let fourth : prefixed y (z ((place + length x.code) + length y.code)) ≡ f (g (held x.result)) (place + length x.code) x.register x.slot =
+    sym (hf (g (held x.result)) (place + length x.code) x.register x.slot) in
+    first ∙ second ∙ third ∙ ap (prefixed x) fourth
+
+pub operation_over : (r : Operation) (x : Operand) (y : Operand) → BeginsWith (λ a. operation_code r (record x { code = a }) y)
+operation_over r x y =
+    over_over (λ a. last_code r.last a (converted_to r.second y)) (converted x.ty r.first) (last_first r.last (converted_to r.second y)) (converted_over x.ty r.first)
+
+-- which row an operator has does not hang on the code of its operand
+pub operation_same : (defs : List StructDef) (o : BinaryOperator) (x y : Operand) (a : Code)
+    → operation_of defs o (record x { code = a }) y ≡ operation_of defs o x y
+unfolding operand_type
+operation_same defs binary.LogicalOr x y a = refl
+operation_same defs binary.LogicalAnd x y a = refl
+operation_same defs binary.BitwiseOr x y a = refl
+operation_same defs binary.BitwiseExclusiveOr x y a = refl
+operation_same defs binary.BitwiseAnd x y a = refl
+operation_same defs binary.Equal x y a = refl
+operation_same defs binary.NotEqual x y a = refl
+operation_same defs binary.Less x y a = refl
+operation_same defs binary.Greater x y a = refl
+operation_same defs binary.LessEqual x y a = refl
+operation_same defs binary.GreaterEqual x y a = refl
+operation_same defs binary.ShiftLeft x y a = refl
+operation_same defs binary.ShiftRight x y a = refl
+operation_same defs binary.Add x y a = refl
+operation_same defs binary.Subtract x y a = refl
+operation_same defs binary.Multiply x y a = refl
+operation_same defs binary.Divide x y a = refl
+operation_same defs binary.Remainder x y a = refl
+
+pub operated_over : (defs : List StructDef) (o : BinaryOperator) (x y : Operand) → BeginsWith (λ a. operated defs o (record x { code = a }) y)
+operated_over defs o x y a place register slot =
+    let same : (c : Code) → operation_code (operation_of defs o (record x { code = c }) y) (record x { code = c }) y place register slot
+    ≡ operation_code (operation_of defs o x y) (record x { code = c }) y place register slot =
+    λ c. ap (λ r. operation_code r (record x { code = c }) y place register slot) (operation_same defs o x y c) in
+    let m = a place register slot in
+    same a ∙ operation_over (operation_of defs o x y) x y a place register slot
+    ∙ ap (prefixed m) (sym (ap (λ r. operation_code r (record x { code = held m.result }) y (place + length m.code) m.register m.slot) (operation_same defs o x y (held m.result))))
+
+pub new_over : (scope : Scope) (o : BinaryOperator) (x : Part) (y : Operand) → BeginsWith (new_value scope o x y)
+new_over scope o x y =
+    over_over (converted (operated_type scope.structs o (operand x) y) x.ty) (λ a. operated scope.structs o (old_operand x a) y)
+    (converted_over (operated_type scope.structs o (operand x) y) x.ty) (operated_over scope.structs o (operand x) y)
+
+pub assigned_over : (l : Lvalue) → BeginsWith (assigned l)
+assigned_over l a place register slot =
+    let x = a place register slot in
+    let n = place + length x.code in
+    let y = l.address n x.register x.slot in
+    let end = Touch y.result l.root ∷ Store y.result x.result l.ty ∷ [] in
+    let e : n ≡ n + 0 = omega arith in
+    (λ i. record { code = append_assoc x.code y.code end i; result = x.result; register = y.register; slot = y.slot })
+    ∙ ap (λ m. prefixed x (stored_made l.root l.ty (held x.result m x.register x.slot) (l.address m x.register x.slot))) e
+
+pub assigned_by_over : (n : Named) (l : Lvalue) → BeginsWith (assigned_by n l)
+assigned_by_over (named.Slot s) l = followed_over (λ x. SetLocal s x)
+assigned_by_over (named.Function f) l = assigned_over l
+assigned_by_over (named.BuiltIn b) l = assigned_over l
+assigned_by_over (named.Global g) l = assigned_over l
+assigned_by_over (named.Frame v) l = assigned_over l
+assigned_by_over named.Other l = assigned_over l
+
+-- ---- values, converted
+
+pub converted_row : (p : Part) (t : Ty) (old mid new : Emitter) (v : ℕ) (r : Result ℕ Trouble) → Outcome old (code_of old p.value) (Ok v) mid
+    → Outcome mid (code_of mid (converted_to t (old_operand p (held v)))) r new → Outcome old (code_of old (converted_part p t)) r new
+converted_row p t old mid new v r h k = behind_value (converted (operand p).ty t) (converted_over (operand p).ty t) p.value old mid new v r h k
+
+pub converted_stop : (p : Part) (t : Ty) (old : Emitter) (e : Trouble) → Stops old (code_of old p.value).code e → Stops old (code_of old (converted_part p t)).code e
+converted_stop p t old e h = stops_value (converted (operand p).ty t) (converted_over (operand p).ty t) p.value old e h
+
+-- ---- operators
+
+pub binary_step : (defs : List StructDef) (o : BinaryOperator) (p : Part) (y : Operand) (old mid new : Emitter) (v : ℕ) (r : Result ℕ Trouble)
+    → Outcome old (code_of old p.value) (Ok v) mid
+    → Outcome mid (code_of mid (operated defs o (old_operand p (held v)) y)) r new → Outcome old (code_of old (operated defs o (operand p) y)) r new
+binary_step defs o p y old mid new v r h k = behind_value (λ a. operated defs o (old_operand p a) y) (operated_over defs o (operand p) y) p.value old mid new v r h k
+
+pub binary_stop : (defs : List StructDef) (o : BinaryOperator) (p : Part) (y : Operand) (old : Emitter) (e : Trouble)
+    → Stops old (code_of old p.value).code e → Stops old (code_of old (operated defs o (operand p) y)).code e
+binary_stop defs o p y old e h = stops_value (λ a. operated defs o (old_operand p a) y) (operated_over defs o (operand p) y) p.value old e h
+
+pub operation_step : (m : Operation) (x y : Operand) (old mid ready new : Emitter) (v w : ℕ) (r : Result ℕ Trouble)
+    → Outcome old (code_of old (converted_to m.first x)) (Ok v) mid
+    → Outcome mid (code_of mid (converted_to m.second y)) (Ok w) ready
+    → Outcome ready (code_of ready (last_code m.last (held v) (held w))) r new → Outcome old (code_of old (operation_code m x y)) r new
+operation_step m x y old mid ready new v w r h k l =
+    behind_value (λ a. last_code m.last a (converted_to m.second y)) (last_first m.last (converted_to m.second y)) (converted_to m.first x) old mid new v r h
+    (behind_value (λ b. last_code m.last (held v) b) (last_second m.last v) (converted_to m.second y) mid ready new w r k l)
+
+pub operation_stop : (m : Operation) (x y : Operand) (old : Emitter) (e : Trouble)
+    → Stops old (code_of old (converted_to m.first x)).code e → Stops old (code_of old (operation_code m x y)).code e
+operation_stop m x y old e h =
+    stops_value (λ a. last_code m.last a (converted_to m.second y)) (last_first m.last (converted_to m.second y)) (converted_to m.first x) old e h
+
+pub operation_late : (m : Operation) (x y : Operand) (old mid : Emitter) (v : ℕ) (e : Trouble) → Outcome old (code_of old (converted_to m.first x)) (Ok v) mid
+    → Stops mid (code_of mid (converted_to m.second y)).code e → Stops old (code_of old (operation_code m x y)).code e
+operation_late m x y old mid v e h k =
+    behind_value (λ a. last_code m.last a (converted_to m.second y)) (last_first m.last (converted_to m.second y)) (converted_to m.first x) old mid mid v (Err e) h
+    (stops_value (λ b. last_code m.last (held v) b) (last_second m.last v) (converted_to m.second y) mid e k)
+
+-- what an operation emits, where that operation was found
+pub operated_row : (defs : List StructDef) (o : BinaryOperator) (x : Part) (y : Operand) (a : Code) (m : Operation) (old new : Emitter) (r : Result ℕ Trouble)
+    → m ≡ operation_of defs o (operand x) y → Outcome old (code_of old (operation_code m (old_operand x a) y)) r new
+    → Outcome old (code_of old (operated defs o (old_operand x a) y)) r new
+operated_row defs o x y a m old new r is h =
+    subst (λ n. Outcome old (code_of old (operation_code n (old_operand x a) y)) r new) (is ∙ sym (operation_same defs o (operand x) y a)) h
+
+-- ---- lvalues
+
+pub lvalue_row : (l : Lvalue) (old mid new : Emitter) (p : ℕ) (r : Result ℕ Trouble) → Outcome old (code_of old l.address) (Ok p) mid
+    → Outcome mid (code_of mid (lvalue_value (from_root l.ty l.root (held p)))) r new → Outcome old (code_of old (lvalue_value l)) r new
+lvalue_row l old mid new p r h k =
+    behind_value (λ a. lvalue_value (from_root l.ty l.root a)) (value_over l.ty l.root (out-Ty l.ty)) l.address old mid new p r h k
+
+pub lvalue_stop : (l : Lvalue) (old : Emitter) (e : Trouble) → Stops old (code_of old l.address).code e → Stops old (code_of old (lvalue_value l)).code e
+lvalue_stop l old e h = stops_value (λ a. lvalue_value (from_root l.ty l.root a)) (value_over l.ty l.root (out-Ty l.ty)) l.address old e h
+
+pub pointer_row : (l : Lvalue) (old mid new : Emitter) (p : ℕ) (r : Result ℕ Trouble) → Outcome old (code_of old l.address) (Ok p) mid
+    → Outcome mid (code_of mid (pointing l.root l.ty (held p))) r new → Outcome old (code_of old (address_of l)) r new
+pointer_row l old mid new p r h k = behind_value (pointing l.root l.ty) (pointing_over l.root l.ty) l.address old mid new p r h k
+
+pub pointer_stop : (l : Lvalue) (old : Emitter) (e : Trouble) → Stops old (code_of old l.address).code e → Stops old (code_of old (address_of l)).code e
+pointer_stop l old e h = stops_value (pointing l.root l.ty) (pointing_over l.root l.ty) l.address old e h
+
+-- ---- assignments
+
+pub assigned_row : (n : Named) (l : Lvalue) (c : Code) (old mid new : Emitter) (x : ℕ) (r : Result ℕ Trouble) → Outcome old (code_of old c) (Ok x) mid
+    → Outcome mid (code_of mid (assigned_by n l (held x))) r new → Outcome old (code_of old (assigned_by n l c)) r new
+assigned_row n l c old mid new x r h k = behind_value (assigned_by n l) (assigned_by_over n l) c old mid new x r h k
+
+pub assigned_stop : (n : Named) (l : Lvalue) (c : Code) (old : Emitter) (e : Trouble) → Stops old (code_of old c).code e → Stops old (code_of old (assigned_by n l c)).code e
+assigned_stop n l c old e h = stops_value (assigned_by n l) (assigned_by_over n l) c old e h
+
+-- an address is found behind the value that is assigned
+pub stored_row : (l : Lvalue) (x : ℕ) (old mid new : Emitter) (p : ℕ) (r : Result ℕ Trouble) → Outcome old (code_of old l.address) (Ok p) mid
+    → Outcome mid (restored_made l.root l.ty p (code_of mid (held x))) r new → Outcome old (code_of old (assigned l (held x))) r new
+stored_row l x old mid new p r h k =
+    let a = code_of old l.address in
+    let y : Made = record {
+      code = Touch a.result l.root ∷ Store a.result x l.ty ∷ [];
+      result = x;
+      register = a.register;
+      slot = a.slot;
+    } in
+    let same : restored_made l.root l.ty p (code_of mid (held x)) ≡ y =
+    λ i. restored_made l.root l.ty (h.1 i) (record { code = []; result = x; register = h.0.next_register i; slot = h.0.next_slot i }) in
+    let e : length old.code + 0 ≡ length old.code = omega arith in
+    subst (λ n. Outcome old (stored_made l.root l.ty (code_of old (held x)) (l.address n old.register old.slot)) r new) (sym e)
+    (then_made old mid new a y p r h (subst (λ m. Outcome mid m r new) same k))
+
+pub stored_stop : (l : Lvalue) (x : ℕ) (old : Emitter) (e : Trouble)
+    → Stops old (code_of old l.address).code e → Stops old (code_of old (assigned l (held x))).code e
+stored_stop l x old e h =
+    let a = code_of old l.address in
+    let n : length old.code + 0 ≡ length old.code = omega arith in
+    subst (λ n. Stops old (stored_made l.root l.ty (code_of old (held x)) (l.address n old.register old.slot)).code e) (sym n)
+    (stops_front old a.code (Touch a.result l.root ∷ Store a.result x l.ty ∷ []) e h)
+
+-- ---- elements and members
+
+pub element_row : (n : ℕ) (a i : Code) (old mid ready new : Emitter) (s v w : ℕ) (r : Result ℕ Trouble) → s ≡ n → Outcome old (code_of old a) (Ok v) mid
+    → Outcome mid (code_of mid i) (Ok w) ready → Outcome ready (code_of ready (pointer_plus s (held v) (held w))) r new
+    → Outcome old (code_of old (pointer_plus n a i)) r new
+element_row n a i old mid ready new s v w r is h k l =
+    behind_value (λ a. pointer_plus n a i) (last_first (last.PointerPlus n) i) a old mid new v r h
+    (behind_value (λ b. pointer_plus n (held v) b) (last_second (last.PointerPlus n) v) i mid ready new w r k
+    (subst (λ m. Outcome ready (code_of ready (pointer_plus m (held v) (held w))) r new) is l))
+
+pub element_stop : (n : ℕ) (a i : Code) (old : Emitter) (e : Trouble)
+    → Stops old (code_of old a).code e → Stops old (code_of old (pointer_plus n a i)).code e
+element_stop n a i old e h = stops_value (λ a. pointer_plus n a i) (last_first (last.PointerPlus n) i) a old e h
+
+pub element_late : (n : ℕ) (a i : Code) (old mid : Emitter) (v : ℕ) (e : Trouble) → Outcome old (code_of old a) (Ok v) mid
+    → Stops mid (code_of mid i).code e → Stops old (code_of old (pointer_plus n a i)).code e
+element_late n a i old mid v e h k =
+    behind_value (λ a. pointer_plus n a i) (last_first (last.PointerPlus n) i) a old mid mid v (Err e) h
+    (stops_value (λ b. pointer_plus n (held v) b) (last_second (last.PointerPlus n) v) i mid e k)
+
+pub member_row : (n : ℕ) (a : Code) (old mid new : Emitter) (k v : ℕ) (r : Result ℕ Trouble) → k ≡ n → Outcome old (code_of old a) (Ok v) mid
+    → Outcome mid (code_of mid (member_address k (held v))) r new → Outcome old (code_of old (member_address n a)) r new
+member_row n a old mid new k v r is h l =
+    behind_value (member_address n) (extended_over (λ d p. PtrConst d p n)) a old mid new v r h
+    (subst (λ i. Outcome mid (code_of mid (member_address i (held v))) r new) is l)
+
+pub member_stop : (n : ℕ) (a : Code) (old : Emitter) (e : Trouble)
+    → Stops old (code_of old a).code e → Stops old (code_of old (member_address n a)).code e
+member_stop n a old e h = stops_value (member_address n) (extended_over (λ d p. PtrConst d p n)) a old e h
+
+pub unary_row : (o : Operator) (a : Code) (old mid new : Emitter) (v : ℕ) (r : Result ℕ Trouble) → Outcome old (code_of old a) (Ok v) mid
+    → Outcome mid (code_of mid (unary_code o (held v))) r new → Outcome old (code_of old (unary_code o a)) r new
+unary_row o a old mid new v r h k = behind_value (unary_code o) (extended_over (λ d x. Unary d o x)) a old mid new v r h k
+
+pub unary_stop : (o : Operator) (a : Code) (old : Emitter) (e : Trouble)
+    → Stops old (code_of old a).code e → Stops old (code_of old (unary_code o a)).code e
+unary_stop o a old e h = stops_value (unary_code o) (extended_over (λ d x. Unary d o x)) a old e h
+
+-- ---- what an operator gives, converted back
+
+pub back_row : (from to : Ty) (a : Code) (old mid new : Emitter) (v : ℕ) (r : Result ℕ Trouble) → Outcome old (code_of old a) (Ok v) mid
+    → Outcome mid (code_of mid (converted from to (held v))) r new → Outcome old (code_of old (converted from to a)) r new
+back_row from to a old mid new v r h k = behind_value (converted from to) (converted_over from to) a old mid new v r h k
+
+pub back_stop : (from to : Ty) (a : Code) (old : Emitter) (e : Trouble)
+    → Stops old (code_of old a).code e → Stops old (code_of old (converted from to a)).code e
+back_stop from to a old e h = stops_value (converted from to) (converted_over from to) a old e h

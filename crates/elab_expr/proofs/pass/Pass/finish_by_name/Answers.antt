@@ -1,0 +1,11 @@
+use Rattle.elab_rows.specs.Values.{part}
+use Rattle.elab_expr.specs.Emits.{code_of}
+use Rattle.elab_expr.specs.inner.Lists.{listed}
+use Rattle.elab_expr.proofs.NamedRows.{end_other}
+use Rattle.elab_expr.proofs.pass.Pass.finish_by_name.Goals as goal
+
+pub returns-in_default-clause-made : goal.returns-in_default-clause-made
+returns-in_default-clause-made g c =
+    let f = part c.args.self.now.scope.now c.args.callee.now in
+    end_other f.name _ c.args.ty.now (listed c.args.out.now c.args.registers) (code_of c.args.out.now f.value) c.args.out.now _ _ c.name.ensures
+    c.in_default.not-Function c.in_default.not-BuiltIn c.indirect_call.ensures.made

@@ -1,0 +1,249 @@
+//! Assignments, `op=`, `++` and `--`.
+
+ghost use Rattle.std.specs.Prelude.{◌≡◌};
+ghost use Rattle.c_tree.specs.Operators.{binary_operator};
+ghost use Rattle.elab_rows.specs.Addresses as lvalues;
+ghost use Rattle.elab_expr.specs.Emits.{IsSound, Outcome, code_of};
+ghost use Rattle.elab_rows.specs.Made.{held};
+ghost use Rattle.elab_rows.specs.Rows as rows;
+ghost use Rattle.elab_rows.specs.Units.{scalars};
+ghost use Rattle.elab_rows.specs.Values as spec;
+ghost use Rattle.elab_rows.specs.Values.{operand, part};
+ghost use Rattle.elab_expr.specs.inner.Lists.{UpdateOutcome};
+ghost use Rattle.elab_expr.specs.inner.Nests.{Nests};
+
+use crate::copies::copy_lvalue;
+use crate::emitter::{Emitter, Trouble};
+use crate::finish::Updated;
+use crate::named::name;
+use crate::parts::{convert_back, has_struct_type, load_lvalue, store_lvalue};
+use crate::pass::Pass;
+use crate::rows::{set_slot, slot};
+use crate::types::one;
+use c_tree::{AssignOperator, BinaryOperator};
+use c_typed::TypedExpr;
+use elab_rows::{Named, Scope};
+
+impl<'s, V, A> Pass<'s, V, A>
+where
+    V: Fn(&mut Emitter, &Scope, u32, &TypedExpr) -> Result<u32, Trouble> + Copy,
+    A: Fn(&mut Emitter, &Scope, u32, &TypedExpr) -> Result<u32, Trouble> + Copy,
+{
+    /// An assignment.
+    pub(crate) fn assign(
+        &self,
+        out: &mut Emitter,
+        a: &TypedExpr,
+        operator: AssignOperator,
+        b: &TypedExpr,
+    ) -> Result<u32, Trouble>
+        requires nests { Nests self.now.depth (V.pre self.now.values) (V.post self.now.values) (A.pre self.now.addresses) (A.post self.now.addresses) }
+        requires sound { IsSound out.old }
+        ensures made { Outcome out.old (code_of out.old (spec.assignment_by self.now.scope.now (binary_operator operator) (part self.now.scope.now a.now) (part self.now.scope.now b.now))) result out.new }
+        ensures sound { IsSound out.new }
+    {
+        match operator.binary_operator() {
+            None => self.plain_assign(out, a, b),
+            Some(operator) => self.updated_value(out, operator, a, b),
+        }
+    }
+
+    /// `e1 = e2`.
+    fn plain_assign(&self, out: &mut Emitter, a: &TypedExpr, b: &TypedExpr) -> Result<u32, Trouble>
+        requires nests { Nests self.now.depth (V.pre self.now.values) (V.post self.now.values) (A.pre self.now.addresses) (A.post self.now.addresses) }
+        requires sound { IsSound out.old }
+        ensures made { Outcome out.old (code_of out.old (spec.plain_assigned self.now.scope.now (part self.now.scope.now a.now) (part self.now.scope.now b.now))) result out.new }
+        ensures sound { IsSound out.new }
+    {
+        if has_struct_type(self.scope, a) {
+            return self.struct_assign(out, a, b);
+        }
+        self.value_assign(out, a, b)
+    }
+
+    /// The same of scalars.
+    fn value_assign(&self, out: &mut Emitter, a: &TypedExpr, b: &TypedExpr) -> Result<u32, Trouble>
+        requires nests { Nests self.now.depth (V.pre self.now.values) (V.post self.now.values) (A.pre self.now.addresses) (A.post self.now.addresses) }
+        requires sound { IsSound out.old }
+        ensures made { let p = part self.now.scope.now a.now in Outcome out.old (code_of out.old
+            (spec.assigned_by p.name p.lvalue (spec.converted_part (part self.now.scope.now b.now) p.ty))) result out.new }
+        ensures sound { IsSound out.new }
+    {
+        let x = self.converted_for(out, b, a)?;
+        self.scalar_assign(out, a, x)
+    }
+
+    /// A value, converted to the type of what it is assigned to.
+    #[tactic(auto, using(crate::proofs::Nodes::type_is))]
+    fn converted_for(&self, out: &mut Emitter, b: &TypedExpr, a: &TypedExpr) -> Result<u32, Trouble>
+        requires nests { Nests self.now.depth (V.pre self.now.values) (V.post self.now.values) (A.pre self.now.addresses) (A.post self.now.addresses) }
+        requires sound { IsSound out.old }
+        ensures made { Outcome out.old (code_of out.old (spec.converted_part (part self.now.scope.now b.now) (part self.now.scope.now a.now).ty)) result out.new }
+        ensures sound { IsSound out.new }
+    {
+        self.converted(out, b, &a.ty)
+    }
+
+    /// An assignment of a register that has the value.
+    fn scalar_assign(&self, out: &mut Emitter, a: &TypedExpr, x: u32) -> Result<u32, Trouble>
+        requires nests { Nests self.now.depth (V.pre self.now.values) (V.post self.now.values) (A.pre self.now.addresses) (A.post self.now.addresses) }
+        requires sound { IsSound out.old }
+        ensures made { Outcome out.old (code_of out.old (spec.assigned_by (part self.now.scope.now a.now).name (part self.now.scope.now a.now).lvalue (held x))) result out.new }
+        ensures sound { IsSound out.new }
+    {
+        match name(self.scope, a) {
+            Named::Slot(s) => set_slot(out, s, x),
+            _ => self.memory_assign(out, a, x),
+        }
+    }
+
+    /// The same in memory.
+    fn memory_assign(&self, out: &mut Emitter, a: &TypedExpr, x: u32) -> Result<u32, Trouble>
+        requires nests { Nests self.now.depth (V.pre self.now.values) (V.post self.now.values) (A.pre self.now.addresses) (A.post self.now.addresses) }
+        requires sound { IsSound out.old }
+        ensures made { Outcome out.old (code_of out.old (lvalues.assigned (part self.now.scope.now a.now).lvalue (held x))) result out.new }
+        ensures sound { IsSound out.new }
+    {
+        let p = self.address(out, a)?;
+        store_lvalue(out, self.scope, a, p, x)
+    }
+
+    /// An assignment of structs.
+    fn struct_assign(&self, out: &mut Emitter, a: &TypedExpr, b: &TypedExpr) -> Result<u32, Trouble>
+        requires nests { Nests self.now.depth (V.pre self.now.values) (V.post self.now.values) (A.pre self.now.addresses) (A.post self.now.addresses) }
+        requires sound { IsSound out.old }
+        ensures made { Outcome out.old (code_of out.old (lvalues.struct_assigned (scalars self.now.scope.now.structs (part self.now.scope.now a.now).ty) (part self.now.scope.now a.now).lvalue (part self.now.scope.now b.now).lvalue)) result out.new }
+        ensures sound { IsSound out.new }
+    {
+        let p = self.address(out, b)?;
+        let q = self.address(out, a)?;
+        copy_lvalue(out, self.scope, a, q, b, p)
+    }
+
+    /// `op=`, and `++`, `--` in front: the new value.
+    fn updated_value(
+        &self,
+        out: &mut Emitter,
+        operator: BinaryOperator,
+        a: &TypedExpr,
+        y: &TypedExpr,
+    ) -> Result<u32, Trouble>
+        requires nests { Nests self.now.depth (V.pre self.now.values) (V.post self.now.values) (A.pre self.now.addresses) (A.post self.now.addresses) }
+        requires sound { IsSound out.old }
+        ensures made { Outcome out.old (code_of out.old (spec.updated_part self.now.scope.now operator (part self.now.scope.now a.now) (operand (part self.now.scope.now y.now)))) result out.new }
+        ensures sound { IsSound out.new }
+    {
+        let values = self.updated(out, operator, a, y)?;
+        Ok(values.new)
+    }
+
+    /// `++` and `--` in front.
+    pub(crate) fn counted(
+        &self,
+        out: &mut Emitter,
+        operator: BinaryOperator,
+        a: &TypedExpr,
+    ) -> Result<u32, Trouble>
+        requires nests { Nests self.now.depth (V.pre self.now.values) (V.post self.now.values) (A.pre self.now.addresses) (A.post self.now.addresses) }
+        requires sound { IsSound out.old }
+        ensures made { Outcome out.old (code_of out.old (spec.updated_part self.now.scope.now operator (part self.now.scope.now a.now) (operand spec.one))) result out.new }
+        ensures sound { IsSound out.new }
+    {
+        let one = one();
+        self.updated_value(out, operator, a, &one)
+    }
+
+    /// `++` and `--` behind: the old value.
+    pub(crate) fn postfix(
+        &self,
+        out: &mut Emitter,
+        operator: BinaryOperator,
+        a: &TypedExpr,
+    ) -> Result<u32, Trouble>
+        requires nests { Nests self.now.depth (V.pre self.now.values) (V.post self.now.values) (A.pre self.now.addresses) (A.post self.now.addresses) }
+        requires sound { IsSound out.old }
+        ensures made { Outcome out.old (code_of out.old (spec.postfix_part self.now.scope.now operator (part self.now.scope.now a.now))) result out.new }
+        ensures sound { IsSound out.new }
+    {
+        let one = one();
+        let values = self.updated(out, operator, a, &one)?;
+        Ok(values.old)
+    }
+
+    /// The old and the new value of what an operator changes.
+    fn updated(
+        &self,
+        out: &mut Emitter,
+        operator: BinaryOperator,
+        a: &TypedExpr,
+        y: &TypedExpr,
+    ) -> Result<Updated, Trouble>
+        requires nests { Nests self.now.depth (V.pre self.now.values) (V.post self.now.values) (A.pre self.now.addresses) (A.post self.now.addresses) }
+        requires sound { IsSound out.old }
+        ensures made { UpdateOutcome out.old (code_of out.old (spec.updated_part self.now.scope.now operator (part self.now.scope.now a.now) (operand (part self.now.scope.now y.now)))) (code_of out.old (spec.old_value (part self.now.scope.now a.now).name (part self.now.scope.now a.now).lvalue)).result result out.new }
+        ensures sound { IsSound out.new }
+    {
+        match name(self.scope, a) {
+            Named::Slot(s) => self.slot_updated(out, s, operator, a, y),
+            _ => self.memory_updated(out, operator, a, y),
+        }
+    }
+
+    /// The same of a slot.
+    fn slot_updated(
+        &self,
+        out: &mut Emitter,
+        s: u32,
+        operator: BinaryOperator,
+        a: &TypedExpr,
+        y: &TypedExpr,
+    ) -> Result<Updated, Trouble>
+        requires nests { Nests self.now.depth (V.pre self.now.values) (V.post self.now.values) (A.pre self.now.addresses) (A.post self.now.addresses) }
+        requires sound { IsSound out.old }
+        ensures made { UpdateOutcome out.old (code_of out.old (lvalues.slot_updated s (spec.new_value self.now.scope.now operator (part self.now.scope.now a.now) (operand (part self.now.scope.now y.now))))) (code_of out.old (rows.slot_value s)).result result out.new }
+        ensures sound { IsSound out.new }
+    {
+        let old = slot(out, s)?;
+        let given = self.new_value(out, operator, a, old, y)?;
+        let new = set_slot(out, s, given)?;
+        Ok(Updated { old, new })
+    }
+
+    /// The same in memory.
+    fn memory_updated(
+        &self,
+        out: &mut Emitter,
+        operator: BinaryOperator,
+        a: &TypedExpr,
+        y: &TypedExpr,
+    ) -> Result<Updated, Trouble>
+        requires nests { Nests self.now.depth (V.pre self.now.values) (V.post self.now.values) (A.pre self.now.addresses) (A.post self.now.addresses) }
+        requires sound { IsSound out.old }
+        ensures made { UpdateOutcome out.old (code_of out.old (lvalues.updated (part self.now.scope.now a.now).lvalue (spec.new_value self.now.scope.now operator (part self.now.scope.now a.now) (operand (part self.now.scope.now y.now))))) (code_of out.old (lvalues.loaded (part self.now.scope.now a.now).lvalue)).result result out.new }
+        ensures sound { IsSound out.new }
+    {
+        let p = self.address(out, a)?;
+        let old = load_lvalue(out, self.scope, a, p)?;
+        let given = self.new_value(out, operator, a, old, y)?;
+        let new = store_lvalue(out, self.scope, a, p, given)?;
+        Ok(Updated { old, new })
+    }
+
+    /// The new value of what an operator changes, where a register has the old one.
+    fn new_value(
+        &self,
+        out: &mut Emitter,
+        operator: BinaryOperator,
+        x: &TypedExpr,
+        a: u32,
+        y: &TypedExpr,
+    ) -> Result<u32, Trouble>
+        requires nests { Nests self.now.depth (V.pre self.now.values) (V.post self.now.values) (A.pre self.now.addresses) (A.post self.now.addresses) }
+        requires sound { IsSound out.old }
+        ensures made { Outcome out.old (code_of out.old (spec.new_value self.now.scope.now operator (part self.now.scope.now x.now) (operand (part self.now.scope.now y.now)) (held a))) result out.new }
+        ensures sound { IsSound out.new }
+    {
+        let given = self.operated(out, operator, x, a, y)?;
+        convert_back(out, self.scope, operator, x, y, given)
+    }
+}
