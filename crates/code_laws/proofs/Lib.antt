@@ -1,0 +1,6 @@
+mod Lists
+mod Servers
+mod Units
+mod Origins
+mod Decisions
+mod OneCode

@@ -1,0 +1,6 @@
+//! What every run of the protected machine keeps.
+#![tactic(auto)]
+
+mod theorems;
+
+pub use theorems::runs_are_legal;

@@ -1,0 +1,4 @@
+pub mod Tells
+pub mod CodeReads
+pub mod CallReads
+pub mod ReadRuns

@@ -1,0 +1,4 @@
+pub mod Notes
+pub mod Arrivals
+pub mod Starts
+pub mod OpenCalls
