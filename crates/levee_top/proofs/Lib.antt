@@ -1,5 +1,7 @@
 pub mod FailureLemmas
-pub mod LegalOutcome
+pub mod GoodRuns
 pub mod OneOutcome
+pub mod OneSource
 pub mod OutcomeLemmas
-pub mod front_laws
+pub mod RefusalLines
+pub mod Stages

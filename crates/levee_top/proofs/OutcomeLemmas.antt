@@ -1,6 +1,8 @@
 -- What an outcome says of its status and of the words, and the input that was read.
 use Rattle.std.proofs.Common.{◌≡◌, ◌<◌, ◌++◌, ℕ, Bool, true, false, List, [], Option, Some, None, refl, sym, subst, ap, ◌∙◌, append-nil, arith, length, length-append}
 use Rattle.std.specs.Io.KnownBytes.{Appends, IsAtEnd}
+use Rattle.c_tokens.specs.declared.token.LexRefusal.{LexRefusal}
+use Rattle.c_tokens.specs.declared.token.LexRefusal.TheVariants as lex
 use Rattle.lv_base.specs.Whole.{Takes, TakesAbove}
 use Rattle.levee_top.specs.declared.command.Command.TheVariants.{Run}
 use Rattle.levee_top.specs.declared.refusal.Refusal.{Refusal}
@@ -11,14 +13,24 @@ use Rattle.levee_top.specs.Command.{IsNoCommand}
 use Rattle.levee_top.specs.Levee.{IsWhole, IsAcceptance, IsTold, IsInput, Gives}
 use Rattle.levee_top.specs.Outcome.{status_of, greatest_job, Refuses, no_job, no_program, bad_line, too_long, Outcome, usage, refused, ran}
 use Rattle.levee_top.specs.Refusal.{refusal_status, refusal_text, IsRefused}
+use Rattle.levee_top.specs.Source.{of_lex, SourceRefuses, no_tokens, no_tree, breaks_rule, passes_limit}
 use Rattle.levee_top.specs.Theorems.{OutcomesAreUnique}
+
+same_refused : (x y : Refusal) → Some x ≡ Some y → x ≡ y
+same_refused x y e = cc
 
 -- ---- statuses
 
 refusal_is_whole : (why : Refusal) → IsWhole (refusal_status why)
 refusal_is_whole refusal.Usage = tt
 refusal_is_whole refusal.Job = tt
-refusal_is_whole refusal.Source = tt
+refusal_is_whole (refusal.Byte line) = tt
+refusal_is_whole (refusal.Number line) = tt
+refusal_is_whole (refusal.Text line) = tt
+refusal_is_whole (refusal.Comment line) = tt
+refusal_is_whole (refusal.Syntax item) = tt
+refusal_is_whole (refusal.Type item rule) = tt
+refusal_is_whole (refusal.Limit which) = tt
 refusal_is_whole (refusal.ScriptLine n) = tt
 refusal_is_whole refusal.ScriptLong = tt
 
@@ -30,23 +42,44 @@ run_is_whole false = tt
 pub outcome_is_whole : (words : List (List ℕ)) (input : List ℕ) (s : Status) (t : List ℕ) → Outcome words input s t → IsWhole s
 outcome_is_whole words input s t (usage none line) = subst IsWhole (sym line.status_is) tt
 outcome_is_whole words input s t (refused command why is refuses line) = subst IsWhole (sym line.status_is) (refusal_is_whole why)
-outcome_is_whole words input s t (ran full program events is accepted run) = subst IsWhole (sym run.status_is) (run_is_whole _)
+outcome_is_whole words input s t (ran full program inputs events is accepted run) = subst IsWhole (sym run.status_is) (run_is_whole _)
 
 -- a refusal is no acceptance
 refusal_is_none : (why : Refusal) → IsAcceptance (refusal_status why) → ⊥
 refusal_is_none refusal.Usage h = h
 refusal_is_none refusal.Job h = h
-refusal_is_none refusal.Source h = h
+refusal_is_none (refusal.Byte line) h = h
+refusal_is_none (refusal.Number line) h = h
+refusal_is_none (refusal.Text line) h = h
+refusal_is_none (refusal.Comment line) h = h
+refusal_is_none (refusal.Syntax item) h = h
+refusal_is_none (refusal.Type item rule) h = h
+refusal_is_none (refusal.Limit which) h = h
 refusal_is_none (refusal.ScriptLine n) h = h
 refusal_is_none refusal.ScriptLong h = h
 
 pub refused_is_none : (why : Refusal) (s : Status) (t : List ℕ) → IsRefused why s t → IsAcceptance s → ⊥
 refused_is_none why s t line h = refusal_is_none why (subst IsAcceptance line.status_is h)
 
+-- why a place is no token is never the words
+no_token_is_usage : (cause : LexRefusal) (why : Refusal) → of_lex cause ≡ Some why → refusal_status why ≡ status.Refused
+no_token_is_usage (lex.Byte line) why e = subst (λ (w : Refusal). refusal_status w ≡ status.Refused) (same_refused (refusal.Byte line) why e) refl
+no_token_is_usage (lex.Number line) why e = subst (λ (w : Refusal). refusal_status w ≡ status.Refused) (same_refused (refusal.Number line) why e) refl
+no_token_is_usage (lex.Text line) why e = subst (λ (w : Refusal). refusal_status w ≡ status.Refused) (same_refused (refusal.Text line) why e) refl
+no_token_is_usage (lex.Comment line) why e = subst (λ (w : Refusal). refusal_status w ≡ status.Refused) (same_refused (refusal.Comment line) why e) refl
+no_token_is_usage lex.Memory why e = cc
+
+-- nor why a source is refused
+source_refuses : (source : List ℕ) (why : Refusal) → SourceRefuses source why → refusal_status why ≡ status.Refused
+source_refuses source why (no_tokens cause is bad) = no_token_is_usage cause why is
+source_refuses source why (no_tree tokens item is lexes bad) = rw is refl
+source_refuses source why (breaks_rule tree item rule is read bad) = rw is refl
+source_refuses source why (passes_limit typed which is has bad) = rw is refl
+
 -- why an input is refused is never the words
 refuses_input : (input : List ℕ) (why : Refusal) → Refuses input why → refusal_status why ≡ status.Refused
 refuses_input input why (no_job is none) = rw is refl
-refuses_input input why (no_program source script is job none) = rw is refl
+refuses_input input why (no_program source script job refuses) = source_refuses source why refuses
 refuses_input input why (bad_line program script n is has bad) = rw is refl
 refuses_input input why (too_long program script is has long) = rw is refl
 
@@ -60,13 +93,13 @@ usage_words words input s t (usage none line) e = (none, line.text_is)
 usage_words words input s t (refused command why is refuses line) e =
     let no : status.Refused ≡ status.Usage = sym (refuses_input input why refuses) ∙ (sym line.status_is ∙ e) in
     cc
-usage_words words input s t (ran full program events is accepted run) e = absurd (run_is_no_usage _ (sym run.status_is ∙ e))
+usage_words words input s t (ran full program inputs events is accepted run) e = absurd (run_is_no_usage _ (sym run.status_is ∙ e))
 
 -- and words that are none have no other
 pub no_command_gives : (words : List (List ℕ)) (input : List ℕ) (s : Status) (t : List ℕ) → IsNoCommand words → Outcome words input s t → s ≡ status.Usage
 no_command_gives words input s t none (usage none' line) = line.status_is
 no_command_gives words input s t none (refused command why is refuses line) = absurd (none command is)
-no_command_gives words input s t none (ran full program events is accepted run) = absurd (none (Run full) is)
+no_command_gives words input s t none (ran full program inputs events is accepted run) = absurd (none (Run full) is)
 
 -- ---- the input that was read
 

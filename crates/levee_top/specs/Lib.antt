@@ -1,5 +1,4 @@
 pub mod Command
-pub mod Elaborate
 pub mod Levee
 pub mod Outcome
 pub mod Refusal

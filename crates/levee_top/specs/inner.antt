@@ -1,4 +1,1 @@
-pub mod Elaboration
 pub mod Failure
-pub mod Reading
-pub mod Symbols

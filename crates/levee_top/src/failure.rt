@@ -1,10 +1,13 @@
 //! What ends the way of a job before its run.
 ghost use Rattle.std.specs.Prelude.{◌≡◌};
 ghost use Rattle.levee_top.specs.declared.failure.Failure.TheVariants.{Refused, Memory};
-ghost use Rattle.levee_top.specs.inner.Failure.{read_failure, source_failure, script_failure};
+ghost use Rattle.levee_top.specs.inner.Failure.{read_failure, lex_failure, parse_failure, check_failure, elab_failure, script_failure};
 
-use super::front::SourceRefusal;
 use super::refusal::Refusal;
+use c_parser::ParseRefusal;
+use c_tokens::LexRefusal;
+use c_typing::CheckRefusal;
+use elab::ElabRefusal;
 use lv_base::ReadEnd;
 use script::ScriptRefusal;
 use std::alloc::AllocError;
@@ -48,13 +51,49 @@ impl From<ReadEnd> for Failure {
     }
 }
 
-impl From<SourceRefusal> for Failure {
-    ghost from_gives = { λ refusal failure. failure ≡ source_failure refusal };
+impl From<LexRefusal> for Failure {
+    ghost from_gives = { λ refusal failure. failure ≡ lex_failure refusal };
 
-    fn from(refusal: SourceRefusal) -> Failure {
+    fn from(refusal: LexRefusal) -> Failure {
         match refusal {
-            SourceRefusal::Refused => Failure::Refused(Refusal::Source),
-            SourceRefusal::Memory => Failure::Memory,
+            LexRefusal::Byte { line } => Failure::Refused(Refusal::Byte { line }),
+            LexRefusal::Number { line } => Failure::Refused(Refusal::Number { line }),
+            LexRefusal::Text { line } => Failure::Refused(Refusal::Text { line }),
+            LexRefusal::Comment { line } => Failure::Refused(Refusal::Comment { line }),
+            LexRefusal::Memory => Failure::Memory,
+        }
+    }
+}
+
+impl From<ParseRefusal> for Failure {
+    ghost from_gives = { λ refusal failure. failure ≡ parse_failure refusal };
+
+    fn from(refusal: ParseRefusal) -> Failure {
+        match refusal {
+            ParseRefusal::Syntax { item } => Failure::Refused(Refusal::Syntax { item }),
+            ParseRefusal::Memory => Failure::Memory,
+        }
+    }
+}
+
+impl From<CheckRefusal> for Failure {
+    ghost from_gives = { λ refusal failure. failure ≡ check_failure refusal };
+
+    fn from(refusal: CheckRefusal) -> Failure {
+        match refusal {
+            CheckRefusal::Rule { item, rule } => Failure::Refused(Refusal::Type { item, rule }),
+            CheckRefusal::Memory => Failure::Memory,
+        }
+    }
+}
+
+impl From<ElabRefusal> for Failure {
+    ghost from_gives = { λ refusal failure. failure ≡ elab_failure refusal };
+
+    fn from(refusal: ElabRefusal) -> Failure {
+        match refusal {
+            ElabRefusal::Limit { which } => Failure::Refused(Refusal::Limit { which }),
+            ElabRefusal::Memory => Failure::Memory,
         }
     }
 }

@@ -4,8 +4,8 @@
 mod answer;
 mod command;
 mod failure;
-mod front;
 mod refusal;
+mod source;
 mod status;
 mod theorems;
 mod top;
@@ -13,5 +13,5 @@ mod top;
 pub use command::Command;
 pub use refusal::Refusal;
 pub use status::Status;
-pub use theorems::{outcomes_are_legal, outcomes_are_unique};
+pub use theorems::outcomes_are_unique;
 pub use top::levee;

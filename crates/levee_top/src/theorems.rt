@@ -1,8 +1,11 @@
 //! What an outcome is.
-ghost use Rattle.levee_top.specs.Theorems.{OutcomesAreUnique, OutcomesAreLegal};
+ghost use Rattle.levee_top.specs.Theorems.{OutcomesAreUnique};
 
+use c_parser::{refusals_are_certain, sources_have_one_tree};
+use c_tokens::texts_have_one_answer;
+use c_typing::sources_have_one_verdict;
+use code_laws::programs_have_one_code;
 use job::jobs_have_one_cut;
-use meaning::small::runs_are_legal;
 use script::scripts_have_one_answer;
 
 /// Words and an input have one outcome: one status and one text.
@@ -10,14 +13,10 @@ pub fn outcomes_are_unique()
     ensures { OutcomesAreUnique }
 {
     jobs_have_one_cut();
+    texts_have_one_answer();
+    sources_have_one_tree();
+    refusals_are_certain();
+    sources_have_one_verdict();
     scripts_have_one_answer();
-}
-
-/// Whatever the words and the input, a run that they give is one legal history: each read of the safe
-/// store gives what was last put there. And its transfers are good: each call through a pointer goes to
-/// the function that was read at its place, each return behind its call.
-pub fn outcomes_are_legal()
-    ensures { OutcomesAreLegal }
-{
-    runs_are_legal();
+    programs_have_one_code();
 }

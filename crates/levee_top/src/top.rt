@@ -16,7 +16,7 @@ use super::command::Command;
 use super::failure::Failure;
 use super::refusal::Refusal;
 use super::status::Status;
-use super::theorems::{outcomes_are_legal, outcomes_are_unique};
+use super::theorems::outcomes_are_unique;
 use lv_base::{Sink, Source, Trouble, WriteEnd, read_all, write_all};
 use std::alloc::{AllocError, Global};
 
@@ -97,7 +97,8 @@ fn deliver<K: Sink>(sink: &mut K, text: &[u8], status: Status) -> Status
 /// its status.
 ///
 /// The words `run` and `run --full` run a job, with its text in brief and in full; all others are
-/// `Usage`. The order of refusals is: the words, the input's faults, the job, its source, its script.
+/// `Usage`. The order of refusals is: the words, the input's faults, the job, the tokens, the grammar and the
+/// typing of its source, the limits of its program, its script.
 pub fn levee<S: Source, K: Sink>(
     alloc: Global,
     words: &[String],
@@ -105,7 +106,8 @@ pub fn levee<S: Source, K: Sink>(
     sink: &mut K,
 ) -> Status
     // The text written and the status are those of the outcome of the words and the input that was read:
-    // the one that the source tells, where it tells one. A run is one legal history with good transfers.
+    // the one that the source tells, where it tells one. A run is one legal history, its transfers are good and its
+    // pointers are based on what the program made.
     ensures outcome { IsWhole result → Writes (map string_bytes words.now)
         (S.left source.old) (S.bytes_read source.old) (S.bytes_read source.new)
         (K.contents sink.old) (K.contents sink.new) result }
@@ -144,7 +146,6 @@ pub fn levee<S: Source, K: Sink>(
     ensures sink_counted { K.faults sink.old ≤ K.faults sink.new }
 {
     outcomes_are_unique();
-    outcomes_are_legal();
     match answer(alloc, words, source) {
         Ok(answer) => deliver(sink, &answer.text, answer.status),
         Err(Trouble::Failed) => Status::ReadFault,

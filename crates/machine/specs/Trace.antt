@@ -5,10 +5,10 @@ use Rattle.meaning.specs.declared.action.Action.{Action}
 use Rattle.meaning.specs.declared.action.Reply.{Reply}
 use Rattle.meaning.specs.declared.note.Note.{Note}
 use Rattle.meaning.specs.declared.note.Note.TheVariants as note
-use Rattle.meaning.specs.declared.small.record.Record.{Record}
-use Rattle.meaning.specs.declared.small.record.Record.TheVariants.{Noted, Wrote}
+use Rattle.meaning.specs.declared.record.Record.{Record}
+use Rattle.meaning.specs.declared.record.Record.TheVariants.{Noted, Wrote}
 use Rattle.meaning.specs.declared.value.Stop.TheVariants.{Budget}
-use Rattle.meaning.specs.small.Trace.{added_all, did, or_one_step}
+use Rattle.meaning.specs.Records.{added_all, did, or_one_step}
 use Rattle.machine.specs.Run.{CutOff, Idle, Step, Turned, Wrote as WroteStep}
 
 -- the records of a turn

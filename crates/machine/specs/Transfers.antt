@@ -17,7 +17,7 @@ use Rattle.meaning.specs.declared.note.Place.TheVariants.{At, Slot}
 use Rattle.meaning.specs.declared.value.Entry.TheVariants as entry
 use Rattle.meaning.specs.declared.value.Stop.TheVariants.{Budget}
 use Rattle.machine.specs.Addresses.{start_address}
-use Rattle.meaning.specs.small.Transfers.{GoesBehind, Open, outer}
+use Rattle.meaning.specs.OpenCalls.{GoesBehind, Open, outer}
 use Rattle.machine.specs.declared.code.Code.{Code}
 use Rattle.machine.specs.declared.code.CodePlace.{CodePlace}
 use Rattle.machine.specs.declared.code.CodePlace.TheVariants.{Load, GetLocal}

@@ -1,3 +1,4 @@
 pub mod Action
 pub mod Legal
-pub mod small
+pub mod OpenCalls
+pub mod Records

@@ -1,13 +1,14 @@
-//! What the machines mean: values, actions and their replies, and the laws of every run.
+//! What runs consist of: values, actions and their replies, events, notes and records; and which records are a legal history.
 #![tactic(auto)]
 
 mod action;
 mod event;
 mod note;
-pub mod small;
+mod record;
 mod value;
 
 pub use action::{Action, Reply, fits};
 pub use event::{Event, Events, Inputs};
 pub use note::{Note, Place};
+pub use record::{Record, Records};
 pub use value::{Check, Entry, Stop, Value};

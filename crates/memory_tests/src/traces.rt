@@ -1,7 +1,6 @@
 //! What traces hold, and their texts.
 
-use meaning::small::Record;
-use meaning::{Action, Check, Inputs, Note, Reply, Stop};
+use meaning::{Action, Check, Inputs, Note, Record, Reply, Stop};
 use std::test::Fail;
 use trace::Trace;
 

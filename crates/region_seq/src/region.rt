@@ -67,7 +67,8 @@ impl Region {
         })
     }
 
-    /// Draws so many consecutive slots: the first of them, and None where that goes past the last slot.
+    /// Draws so many consecutive slots: the first of them, and None where that goes past the last slot. Slots that are
+    /// refused are drawn all the same, so every later draw of some is refused too.
     pub fn alloc(&mut self, k: u32) -> Option<u32>
         ensures answer { result ≡ first_slot (self.old).slots (self.old).store.next k }
         ensures after { self.new ≡ behind self.old (act.Alloc k) }

@@ -1,4 +1,4 @@
-pub mod LineLemmas
+pub mod EffectLemmas
+pub mod LineTexts
 pub mod LinesAreRead
-pub mod NumberLemmas
 pub mod OneAnswer

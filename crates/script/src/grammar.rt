@@ -1,76 +1,150 @@
 //! The lines of a script.
-ghost use Rattle.std.specs.Prelude.{◌≡◌, ◌++◌, codes, OnOk};
-ghost use Rattle.script.specs.Script.{line_events, line_turns};
-ghost use Rattle.script.specs.inner.Reading.{IsReading, line_of};
+ghost use Rattle.std.specs.Prelude.{◌≡◌, ◌<◌, ◌≤◌, ◌^◌, ◌∷◌, decimal, codes, IfSome};
+ghost use Rattle.std.specs.Option.{option_map};
+ghost use Rattle.fields.specs.Fields.{fields_of};
+ghost use Rattle.fields.specs.Reading.{Reads};
+ghost use Rattle.script.specs.Script.{IsLine, line_text};
+ghost use Rattle.script.specs.inner.Reading as reader;
+ghost use Rattle.script.specs.inner.Reading.{IsReading, line_of, line_fields, line_in};
 
-use super::number::{read_number, read_word};
-use job::len_before;
-use meaning::{Event, Events};
-use std::alloc::AllocError;
+use fields::{Fields, field_laws, is_word};
 
 /// The greatest number of turns, of a line and of a script.
-pub(super) const GREATEST_TURNS: u64 = 4_000_000;
+pub(super) const GREATEST_TURNS: u32 = 4_000_000;
 
 /// What a line of a script says.
-#[derive(Clone, Copy, Debug, PartialEq, Eq)]
-pub(super) enum Line {
-    /// So many turns of thread 0.
-    Turns(u64),
+#[derive(Clone, Copy, Drop)]
+pub(super) enum Line<'a> {
+    /// Nothing stands in it.
+    Empty,
+    /// A comment, without its `#`.
+    Comment(&'a [u8]),
+    /// So many turns of a thread.
+    Turns(u8, u32),
+    /// So many rounds, each one turn of each of so many threads.
+    Rounds(u8, u32),
     /// A word is written at an address.
     Write(u32, i64),
+    /// The next input.
+    Input(i64),
 }
 
 /// What this text of a line says. None exactly where it is no line of a script.
-pub(super) fn read_line(text: &[u8]) -> Option<Line>
-    ensures { IsReading text.now result }
+pub(super) fn read_line(text: &[u8]) -> Option<Line<'_>>
+    ensures { IsReading IsLine text.now result }
 {
-    match text.strip_prefix(b"t 0 ") {
-        Some(turns) => read_turns(turns),
-        None => read_write(text.strip_prefix(b"w ")?),
+    field_laws();
+    parse_line(text)
+}
+
+/// Reads a line, if the text is one.
+#[tactic(auto, unfolding(crate::specs::inner::Reading::line_in))]
+fn parse_line(text: &[u8]) -> Option<Line<'_>>
+    ensures is { option_map line_of result ≡ line_in text.now }
+    ensures found { IfSome result (λ read. text.now ≡ line_text (line_of read)) }
+    ensures proper { IfSome result (λ read. IsLine (line_of read)) }
+{
+    field_laws();
+    match text.strip_prefix(b"#") {
+        Some(comment) => Some(Line::Comment(comment)),
+        None => read_fields(&mut Fields::of(text)),
     }
 }
 
-/// Reads what stands behind `t 0 `.
-fn read_turns(text: &[u8]) -> Option<Line>
-    ensures { IsReading (codes "t 0 " ++ text.now) result }
+/// Reads a line that is no comment.
+#[tactic(auto, unfolding(crate::specs::inner::Reading::fields_in))]
+fn read_fields<'a>(fields: &mut Fields<'a>) -> Option<Line<'a>>
+    ensures reads { Reads (reader.fields_in fields.old) (option_map line_of result) fields.new }
+    ensures found { IfSome result (λ read. fields.old ≡ line_fields (line_of read)) }
+    ensures proper { IfSome result (λ read. IsLine (line_of read)) }
 {
-    let turns = read_number(text)?;
-    (turns <= GREATEST_TURNS).then_some(Line::Turns(turns))
+    let first = fields.field()?;
+    read_form(first, fields)
 }
 
-/// Reads what stands behind `w `.
-fn read_write(text: &[u8]) -> Option<Line>
-    ensures { IsReading (codes "w " ++ text.now) result }
+/// Reads the form that begins with this field.
+#[tactic(auto, unfolding(crate::specs::inner::Reading::form_in))]
+fn read_form<'a>(first: &[u8], fields: &mut Fields<'a>) -> Option<Line<'a>>
+    ensures reads { Reads (reader.form_in first.now fields.old) (option_map line_of result) fields.new }
+    ensures found { IfSome result (λ read. first.now ∷ fields.old ≡ line_fields (line_of read)) }
+    ensures proper { IfSome result (λ read. IsLine (line_of read)) }
 {
-    let (address, word) = text.split_at(len_before(text, b' '));
-    let address = u32::try_from(read_number(address)?).ok()?;
-    let word = read_word(word.strip_prefix(b" ")?)?;
+    if is_word(first, b"") {
+        fields.end()?;
+        return Some(Line::Empty);
+    }
+    if is_word(first, b"t") {
+        return read_turns(fields);
+    }
+    if is_word(first, b"rr") {
+        return read_rounds(fields);
+    }
+    read_datum(first, fields)
+}
+
+/// Reads a write or an input, by its first field.
+#[tactic(auto, unfolding(crate::specs::inner::Reading::datum_in))]
+fn read_datum<'a>(first: &[u8], fields: &mut Fields<'a>) -> Option<Line<'a>>
+    ensures reads { Reads (reader.datum_in first.now fields.old) (option_map line_of result) fields.new }
+    ensures found { IfSome result (λ read. first.now ∷ fields.old ≡ line_fields (line_of read)) }
+    ensures proper { IfSome result (λ read. IsLine (line_of read)) }
+{
+    if is_word(first, b"w") {
+        return read_write(fields);
+    }
+    if is_word(first, b"in") {
+        return read_input(fields);
+    }
+    None
+}
+
+/// Reads the thread and the number of turns.
+#[tactic(auto, unfolding(crate::specs::inner::Reading::turns_in))]
+fn read_turns<'a>(fields: &mut Fields<'a>) -> Option<Line<'a>>
+    ensures reads { Reads (reader.turns_in fields.old) (option_map line_of result) fields.new }
+    ensures found { IfSome result (λ read. codes "t" ∷ fields.old ≡ line_fields (line_of read)) }
+    ensures proper { IfSome result (λ read. IsLine (line_of read)) }
+{
+    let thread = fields.within(0, 15)?;
+    let turns = fields.within(0, GREATEST_TURNS)?;
+    fields.end()?;
+    Some(Line::Turns(thread as u8, turns))
+}
+
+/// Reads the numbers of threads and of rounds.
+#[tactic(auto, unfolding(crate::specs::inner::Reading::rounds_in))]
+fn read_rounds<'a>(fields: &mut Fields<'a>) -> Option<Line<'a>>
+    ensures reads { Reads (reader.rounds_in fields.old) (option_map line_of result) fields.new }
+    ensures found { IfSome result (λ read. codes "rr" ∷ fields.old ≡ line_fields (line_of read)) }
+    ensures proper { IfSome result (λ read. IsLine (line_of read)) }
+{
+    let threads = fields.within(1, 16)?;
+    let rounds = fields.within(0, GREATEST_TURNS)?;
+    fields.end()?;
+    Some(Line::Rounds(threads as u8, rounds))
+}
+
+/// Reads the address and the word.
+#[tactic(auto, unfolding(crate::specs::inner::Reading::write_in))]
+fn read_write<'a>(fields: &mut Fields<'a>) -> Option<Line<'a>>
+    ensures reads { Reads (reader.write_in fields.old) (option_map line_of result) fields.new }
+    ensures found { IfSome result (λ read. codes "w" ∷ fields.old ≡ line_fields (line_of read)) }
+    ensures proper { IfSome result (λ read. IsLine (line_of read)) }
+{
+    let address = fields.small()?;
+    let word = fields.word()?;
+    fields.end()?;
     Some(Line::Write(address, word))
 }
 
-impl Line {
-    /// The number of turns.
-    pub(super) fn turns(self) -> u64
-        ensures { result ≡ line_turns (line_of self) }
-    {
-        match self {
-            Line::Turns(turns) => turns,
-            Line::Write(..) => 0,
-        }
-    }
-
-    /// Adds the events at the end.
-    pub(super) fn push_events(self, events: &mut Events) -> Result<(), AllocError>
-        ensures { OnOk result (events.new ≡ events.old ++ line_events (line_of self)) }
-    {
-        match self {
-            Line::Turns(turns) => {
-                for _ in 0..turns {
-                    events.push(Event::Turn(0))?;
-                }
-                Ok(())
-            }
-            Line::Write(address, word) => events.push(Event::Corrupt(address, word)),
-        }
-    }
+/// Reads the input.
+#[tactic(auto, unfolding(crate::specs::inner::Reading::input_in))]
+fn read_input<'a>(fields: &mut Fields<'a>) -> Option<Line<'a>>
+    ensures reads { Reads (reader.input_in fields.old) (option_map line_of result) fields.new }
+    ensures found { IfSome result (λ read. codes "in" ∷ fields.old ≡ line_fields (line_of read)) }
+    ensures proper { IfSome result (λ read. IsLine (line_of read)) }
+{
+    let word = fields.word()?;
+    fields.end()?;
+    Some(Line::Input(word))
 }

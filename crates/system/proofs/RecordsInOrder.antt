@@ -1,7 +1,7 @@
 -- Records that go behind a trace one after another.
 use Rattle.std.proofs.Common.{◌≡◌, ℕ, List, [], ◌∷◌, ◌++◌, refl, ap, ◌∙◌}
-use Rattle.meaning.specs.declared.small.record.Record.{Record}
-use Rattle.meaning.specs.small.Trace.{added, added_all}
+use Rattle.meaning.specs.declared.record.Record.{Record}
+use Rattle.meaning.specs.Records.{added, added_all}
 
 pub added_all-append : (trace rs ss : List Record) → added_all trace (rs ++ ss) ≡ added_all (added_all trace rs) ss
 added_all-append trace [] ss = refl

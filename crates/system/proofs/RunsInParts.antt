@@ -3,7 +3,7 @@ use Rattle.std.proofs.Common.{◌≡◌, ℕ, List, [], ◌∷◌, ◌++◌, ref
 use Rattle.std.specs.List.{flat_map}
 use Rattle.std.proofs.lemmas.Grind.{flat_map-append}
 use Rattle.meaning.specs.declared.event.Event.{Event}
-use Rattle.meaning.specs.declared.small.record.Record.{Record}
+use Rattle.meaning.specs.declared.record.Record.{Record}
 use Rattle.machine.specs.Run.{Setting, State, Step, happens, steps_from, state_after}
 use Rattle.machine.specs.Trace.{records_of, traced}
 use Rattle.system.proofs.RecordsInOrder.{added_all-append}

@@ -4,10 +4,10 @@ use Rattle.std.proofs.lemmas.List.{append-nil}
 use Rattle.meaning.specs.declared.action.Action.{Action}
 use Rattle.meaning.specs.declared.action.Reply.{Reply}
 use Rattle.meaning.specs.declared.note.Note.{Note}
-use Rattle.meaning.specs.declared.small.record.Record.{Record}
-use Rattle.meaning.specs.declared.small.record.Record.TheVariants.{Noted}
+use Rattle.meaning.specs.declared.record.Record.{Record}
+use Rattle.meaning.specs.declared.record.Record.TheVariants.{Noted}
 use Rattle.meaning.specs.declared.value.Value.{Value}
-use Rattle.meaning.specs.small.Trace.{added_all, did, or_one_step}
+use Rattle.meaning.specs.Records.{added_all, did, or_one_step}
 use Rattle.machine.specs.declared.code.Code.{Code}
 use Rattle.machine.specs.Frames.{Thread, is_live}
 use Rattle.machine.specs.Protected.{next, resume}

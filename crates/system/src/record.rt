@@ -1,12 +1,11 @@
 //! What a turn adds to the trace.
 ghost use Rattle.std.specs.Prelude.{◌≡◌, ◌+◌, ◌++◌, ◌≤◌, ◌<◌, ◌∷◌, [], map, length, IfSome, option_to_list};
 ghost use Rattle.meaning.specs.Action.{Fits};
-ghost use Rattle.meaning.specs.small.Trace.{added_all, did, or_one_step};
-ghost use Rattle.meaning.specs.declared.small.record.Record.{Record};
+ghost use Rattle.meaning.specs.Records.{added_all, did, or_one_step};
+ghost use Rattle.meaning.specs.declared.record.Record.{Record};
 ghost use Rattle.trace.specs.Records.{IsRecord};
 
-use meaning::small::Record;
-use meaning::{Action, Note, Reply};
+use meaning::{Action, Note, Record, Reply};
 use trace::Trace;
 
 /// Records a turn of a thread: its action with its reply unless that is nothing or a halt, then its notes, and a step

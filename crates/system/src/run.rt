@@ -9,8 +9,7 @@ ghost use Rattle.thread_engine.specs.State.{ThreadState};
 use super::memories::Memories;
 use super::turn::{cut_seat, turn_seat};
 use machine::Code;
-use meaning::small::Record;
-use meaning::{Event, Events, Inputs};
+use meaning::{Event, Events, Inputs, Record};
 use plain_seq::Plain;
 use region_seq::Region;
 use std::alloc::{AllocError, Global};
@@ -86,7 +85,8 @@ impl System {
     ///
     /// # Errors
     ///
-    /// `AllocError`, which leaves the trace as it was. The run can't go on behind it.
+    /// `AllocError`, which leaves the trace as it was. The memories may have changed where the turn opened a frame, so the
+    /// run can't go on behind it; the system is still one of its code.
     pub fn turn(&mut self, code: &Code, t: u8, trace: &mut Trace) -> Result<(), AllocError>
         requires valid { ValidCode code.now }
         requires same { IsSystemOf code.now self.old }

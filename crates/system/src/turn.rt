@@ -1,7 +1,7 @@
 //! What an event does to one thread.
 ghost use Rattle.std.specs.Prelude.{◌≡◌, ◌≤◌, ◌<◌, [], ◌∷◌, List, length, slice_get, slice_set, Option, OnOk, OnErr};
 ghost use Rattle.meaning.specs.declared.value.Value.{Value};
-ghost use Rattle.meaning.specs.small.Trace.{added_all};
+ghost use Rattle.meaning.specs.Records.{added_all};
 ghost use Rattle.machine.specs.Frames.{Thread as ModelThread};
 ghost use Rattle.machine.specs.Protected.{next};
 ghost use Rattle.machine.specs.Run.{cuts, turns};
@@ -16,8 +16,7 @@ ghost use Rattle.system.specs.inner.Seats.{Keeps, answer_of, is_running, setting
 use super::memories::Memories;
 use super::record::record_turn;
 use machine::Code;
-use meaning::small::Record;
-use meaning::{Note, Stop};
+use meaning::{Note, Record, Stop};
 use std::alloc::AllocError;
 use thread_engine::Thread;
 use trace::Trace;

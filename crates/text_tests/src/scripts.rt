@@ -1,6 +1,6 @@
 //! Scripts: what their lines give, and the first line that is none.
 use meaning::{Event, Inputs};
-use run_script::{Script, ScriptRefusal, read_inputs, read_script};
+use script::{Script, ScriptRefusal, read_inputs, read_script};
 use std::process::Abort;
 use std::test::Fail;
 

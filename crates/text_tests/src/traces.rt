@@ -1,6 +1,5 @@
 //! Traces, read back from their full texts.
-use meaning::small::Record;
-use meaning::{Action, Entry, Reply};
+use meaning::{Action, Entry, Record, Reply};
 use std::process::Abort;
 use std::test::Fail;
 use trace::Trace;

@@ -16,8 +16,8 @@ use Rattle.meaning.specs.declared.note.Place.{Place}
 use Rattle.meaning.specs.declared.note.Place.TheVariants.{At, Slot}
 use Rattle.meaning.specs.declared.note.Note.{Note}
 use Rattle.meaning.specs.declared.note.Note.TheVariants as note
-use Rattle.meaning.specs.declared.small.record.Record.{Record}
-use Rattle.meaning.specs.declared.small.record.Record.TheVariants.{Steps, Did, Noted, Wrote}
+use Rattle.meaning.specs.declared.record.Record.{Record}
+use Rattle.meaning.specs.declared.record.Record.TheVariants.{Steps, Did, Noted, Wrote}
 
 -- the fields of a line
 abbrev pub Fields : Type 0

@@ -7,4 +7,3 @@ mod records;
 mod text;
 
 pub use records::Trace;
-pub use text::trace_text;

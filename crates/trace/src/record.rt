@@ -5,8 +5,7 @@ ghost use Rattle.trace.specs.Text.{line, entry_fields, did_fields, note_fields, 
 ghost use Rattle.trace.specs.inner.Field.{field_text};
 
 use super::field::{Field, push_fields, push_line};
-use meaning::small::Record;
-use meaning::{Action, Check, Entry, Note, Place, Reply, Stop};
+use meaning::{Action, Check, Entry, Note, Place, Record, Reply, Stop};
 use std::alloc::AllocError;
 
 /// Appends the line of an access of the safe store.

@@ -1,10 +1,9 @@
 //! Traces.
 ghost use Rattle.std.specs.Prelude.{◌≡◌, ◌+◌, ◌-◌, ◌≤◌, ◌<◌, [], ◌∷◌, ◌++◌, length, slice_get, slice_set, Option, MatchOption, IsOk, IfOk, OnOk, OnErr};
-ghost use Rattle.meaning.specs.small.Trace.{added, joined, is_violated, names_check};
+ghost use Rattle.meaning.specs.Records.{added, joined, is_violated, names_check};
 ghost use Rattle.trace.specs.Records.{IsRecord};
 
-use meaning::small::Record;
-use meaning::{Inputs, Note, Stop};
+use meaning::{Inputs, Note, Record, Stop};
 use std::alloc::{AllocError, Global};
 use std::marker::Model;
 

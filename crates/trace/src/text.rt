@@ -4,10 +4,9 @@ ghost use Rattle.std.specs.List.{flat_map};
 ghost use Rattle.trace.specs.Text.{input_text, is_brief, record_text, run_text, trace_text};
 
 use super::record::{push_input, push_record};
-use super::records::Trace as RunTrace;
-use meaning::small::{Record, Trace};
-use meaning::{Action, Note};
-use std::alloc::{AllocError, Global};
+use super::records::Trace;
+use meaning::{Action, Note, Record};
+use std::alloc::AllocError;
 
 /// Whether the brief text shows the record.
 fn is_brief(entry: &Record) -> bool
@@ -45,20 +44,7 @@ fn push_inputs(text: &mut Vec<u8>, inputs: &[i64]) -> Result<(), AllocError>
     Ok(())
 }
 
-/// The text of a trace, in full or in brief.
-///
-/// # Errors
-///
-/// `AllocError`, where no memory is left.
-pub fn trace_text(alloc: Global, trace: &Trace, full: bool) -> Result<Vec<u8>, AllocError>
-    ensures { IfOk result (λ text. text.items ≡ trace_text full trace.now) }
-{
-    let mut text = Vec::new(alloc);
-    push_records(&mut text, trace.as_slice(), full)?;
-    Ok(text)
-}
-
-impl RunTrace {
+impl Trace {
     /// The text of the trace, in full or in brief. The full text begins with the inputs.
     ///
     /// # Errors

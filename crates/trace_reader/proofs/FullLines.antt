@@ -4,7 +4,7 @@ use Rattle.std.specs.List.{All, AllByRecursion, concat, flat_map}
 use Rattle.std.proofs.lemmas.Bool.{cases_order, cases_eq}
 use Rattle.std.proofs.lemmas.List.{append-nil, get_or_append_left, get_or_push, length_push, map_push, same_from_push, nil_from_length}
 use Rattle.std.proofs.lemmas.List.Elements.{All-nil, All-push, recursion_from_All}
-use Rattle.meaning.specs.declared.small.record.Record.{Record}
+use Rattle.meaning.specs.declared.record.Record.{Record}
 use Rattle.job.specs.Lines.{lines_of}
 use Rattle.fields.specs.Numbers.{IsWord}
 use Rattle.fields.specs.Theorems.{FieldLaws}

@@ -21,8 +21,8 @@ use Rattle.meaning.specs.declared.note.Place.{Place}
 use Rattle.meaning.specs.declared.note.Place.TheVariants.{At, Slot}
 use Rattle.meaning.specs.declared.note.Note.{Note}
 use Rattle.meaning.specs.declared.note.Note.TheVariants as note
-use Rattle.meaning.specs.declared.small.record.Record.{Record}
-use Rattle.meaning.specs.declared.small.record.Record.TheVariants.{Steps, Did, Noted, Wrote}
+use Rattle.meaning.specs.declared.record.Record.{Record}
+use Rattle.meaning.specs.declared.record.Record.TheVariants.{Steps, Did, Noted, Wrote}
 use Rattle.job.specs.Lines.{lines_of}
 use Rattle.fields.specs.Fields.{fields_of, spaced, line, IsPlain, ArePlain}
 use Rattle.fields.specs.Numbers.{u32_of}

@@ -4,7 +4,7 @@ use Rattle.std.specs.List.{concat}
 use Rattle.std.specs.Result.{is_ok}
 use Rattle.std.proofs.lemmas.Bool.{false≢true}
 use Rattle.std.proofs.lemmas.List.{append-nil, length-drop, length_push, take-append-drop}
-use Rattle.meaning.specs.declared.small.record.Record.{Record}
+use Rattle.meaning.specs.declared.record.Record.{Record}
 use Rattle.job.specs.Lines.{lines_of}
 use Rattle.fields.specs.Theorems.{FieldLaws}
 use Rattle.trace_reader.specs.declared.item.Item.{Item}

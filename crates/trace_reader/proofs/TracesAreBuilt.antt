@@ -6,9 +6,9 @@ use Rattle.meaning.specs.declared.action.Action.{Action}
 use Rattle.meaning.specs.declared.action.Action.TheVariants as act
 use Rattle.meaning.specs.declared.action.Reply.{Reply}
 use Rattle.meaning.specs.declared.action.Reply.TheVariants as reply
-use Rattle.meaning.specs.declared.small.record.Record.{Record}
-use Rattle.meaning.specs.declared.small.record.Record.TheVariants.{Steps, Did, Noted, Wrote}
-use Rattle.meaning.specs.small.Trace.{joined, added}
+use Rattle.meaning.specs.declared.record.Record.{Record}
+use Rattle.meaning.specs.declared.record.Record.TheVariants.{Steps, Did, Noted, Wrote}
+use Rattle.meaning.specs.Records.{joined, added}
 use Rattle.fields.specs.Theorems.{FieldLaws}
 use Rattle.trace.specs.Records.{TraceView, IsTold, IsRecord as IsPushed}
 use Rattle.trace_reader.specs.declared.error.TraceRefusal.{TraceRefusal}

@@ -11,8 +11,8 @@ use Rattle.meaning.specs.declared.note.Place.{Place}
 use Rattle.meaning.specs.declared.note.Place.TheVariants.{At, Slot}
 use Rattle.meaning.specs.declared.note.Note.{Note}
 use Rattle.meaning.specs.declared.note.Note.TheVariants as note
-use Rattle.meaning.specs.declared.small.record.Record.{Record}
-use Rattle.meaning.specs.declared.small.record.Record.TheVariants.{Steps, Did, Noted, Wrote}
+use Rattle.meaning.specs.declared.record.Record.{Record}
+use Rattle.meaning.specs.declared.record.Record.TheVariants.{Steps, Did, Noted, Wrote}
 use Rattle.job.specs.Lines.{lines_of}
 use Rattle.fields.specs.Numbers.{IsWord}
 use Rattle.trace.specs.Records.{TraceView}

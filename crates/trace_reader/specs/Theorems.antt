@@ -1,6 +1,6 @@
 -- What traces and their full texts can be.
 use Rattle.std.specs.Prelude.{◌≡◌, ℕ, ℤ, List}
-use Rattle.meaning.specs.declared.small.record.Record.{Record}
+use Rattle.meaning.specs.declared.record.Record.{Record}
 use Rattle.trace_reader.specs.FullText.{HasFullText, IsFirstBad}
 
 -- one text is the full text of one trace

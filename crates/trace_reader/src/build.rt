@@ -1,13 +1,13 @@
 //! Traces from their full texts.
 ghost use Rattle.std.specs.Prelude.{◌≡◌, ℕ, ℤ, ◌^◌, ◌<◌, ◌≤◌, ◌+◌, List, [], ◌∷◌, ◌++◌, length, IfOk, IfErr};
-ghost use Rattle.meaning.specs.declared.small.record.Record.{Record};
+ghost use Rattle.meaning.specs.declared.record.Record.{Record};
 ghost use Rattle.trace_reader.specs.FullText.{HasFullText, IsTrace, IsRecord, IsRefusal, IsFirstBad, GivesBack, NamesLine};
 ghost use Rattle.trace_reader.specs.inner.Items.{Follows};
 
 use super::error::TraceRefusal;
 use super::read::{Lines, read_lines};
 use fields::field_laws;
-use meaning::small::Record;
+use meaning::Record;
 use std::alloc::{AllocError, Global};
 use trace::Trace;
 

@@ -9,8 +9,7 @@ ghost use Rattle.trace_reader.specs.inner.Reading as reader;
 use super::notes::read_transfer;
 use super::parts::{read_flag, read_found, read_optional};
 use fields::{Fields, is_word};
-use meaning::small::Record;
-use meaning::{Action, Reply};
+use meaning::{Action, Record, Reply};
 
 /// Reads the record that this word begins, first of all an access of memory.
 #[tactic(auto, unfolding(crate::specs::inner::Reading::memory))]

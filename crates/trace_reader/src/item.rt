@@ -7,7 +7,7 @@ ghost use Rattle.trace_reader.specs.inner.Reading as reader;
 
 use super::deeds::read_memory;
 use fields::{Fields, field_laws, is_word, read_u32};
-use meaning::small::Record;
+use meaning::Record;
 
 /// What a line of a full text is.
 #[derive(Clone, Copy, Drop)]

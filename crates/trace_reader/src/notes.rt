@@ -6,8 +6,7 @@ ghost use Rattle.trace_reader.specs.inner.Reading as reader;
 
 use super::parts::{read_place, stop_of};
 use fields::{Fields, is_word};
-use meaning::Note;
-use meaning::small::Record;
+use meaning::{Note, Record};
 
 /// Reads the record that this word begins, first of all a transfer of control.
 #[tactic(auto, unfolding(crate::specs::inner::Reading::transfer))]

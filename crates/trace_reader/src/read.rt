@@ -8,8 +8,7 @@ use super::error::TraceRefusal;
 use super::item::{Item, read_item};
 use fields::field_laws;
 use job::line_len;
-use meaning::Inputs;
-use meaning::small::{Record, Trace as Records};
+use meaning::{Inputs, Record, Records};
 use std::alloc::{AllocError, Global};
 
 /// The lines of a full text.

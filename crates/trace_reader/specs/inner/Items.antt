@@ -1,8 +1,8 @@
 -- What a line of a full text is: an input or a record.
 use Rattle.std.specs.Prelude.{◌≡◌, ◌≢◌, ℕ, ℤ, ◌+◌, List, [], ◌∷◌, ◌++◌, length, codes, decimal, slice_index_or, false, Option, MatchOption, IfSome}
 use Rattle.std.specs.Fmt.{signed_decimal}
-use Rattle.meaning.specs.declared.small.record.Record.{Record}
-use Rattle.meaning.specs.declared.small.record.Record.TheVariants.{Steps, Did, Noted, Wrote}
+use Rattle.meaning.specs.declared.record.Record.{Record}
+use Rattle.meaning.specs.declared.record.Record.TheVariants.{Steps, Did, Noted, Wrote}
 use Rattle.fields.specs.Numbers.{IsWord}
 use Rattle.fields.specs.Reading.{Fields, Reads}
 use Rattle.trace.specs.Text.{input_text, record_text, did_fields, note_fields}

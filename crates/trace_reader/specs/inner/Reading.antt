@@ -12,8 +12,8 @@ use Rattle.meaning.specs.declared.action.Reply.TheVariants as reply
 use Rattle.meaning.specs.declared.note.Place.{Place}
 use Rattle.meaning.specs.declared.note.Place.TheVariants.{At, Slot}
 use Rattle.meaning.specs.declared.note.Note.TheVariants as note
-use Rattle.meaning.specs.declared.small.record.Record.{Record}
-use Rattle.meaning.specs.declared.small.record.Record.TheVariants.{Steps, Did, Noted, Wrote}
+use Rattle.meaning.specs.declared.record.Record.{Record}
+use Rattle.meaning.specs.declared.record.Record.TheVariants.{Steps, Did, Noted, Wrote}
 use Rattle.fields.specs.Numbers.{u32_of}
 use Rattle.fields.specs.Reading.{Reader, ◌>>=◌, ◌>>◌, pure, mismatch, field, said, number, small, word, end}
 use Rattle.trace_reader.specs.declared.item.Item.{Item}

@@ -2,16 +2,16 @@ use Rattle.std.proofs.Common.{◌≡◌, true, take, sym, ap, ◌∙◌}
 use Rattle.std.specs.Result.{is_ok}
 use Rattle.job.specs.Lines.{content}
 use Rattle.script.specs.inner.Reading.{line_of}
-use Rattle.script.proofs.LinesAreRead.{read_none, read_more, read_bad, at_ok}
+use Rattle.script.proofs.LinesAreRead.{script_none, script_more, script_bad, at_ok}
 use Rattle.script.proofs.read.read_lines.Goals as goal
 
 pub loop-rest-init : goal.loop-rest-init
-loop-rest-init c = rw c.new.ensures (read_none c.args.bytes.now)
+loop-rest-init c = rw (c.new.ensures, c.new-2.ensures) (script_none c.args.bytes.now)
 
 pub returns-in_default-clause-refused : goal.returns-in_default-clause-refused
 returns-in_default-clause-refused c =
     let said : c.content_of.result.now ≡ content (take c.line_len.result c.loop-rest.rest.now) = c.content_of.ensures ∙ ap content c.split_at.ensures.front in
-    read_bad c.args.bytes.now c.loop-rest.rest.now c.loop-rest.number c.loop-rest.script.turns c.loop-rest.script.events c.loop-rest.invariant
+    script_bad c.args.bytes.now c.loop-rest.rest.now c.loop-rest.number c.loop-rest.lines.inputs c.loop-rest.lines.events c.loop-rest.lines.turns c.loop-rest.invariant
     c.line_len.result c.line_len.ensures.first (λ line is same. c.in_default.ensures line is (said ∙ same))
 
 pub loop-rest-preserved : goal.loop-rest-preserved
@@ -19,7 +19,8 @@ loop-rest-preserved c =
     let said : c.content_of.result.now ≡ content (take c.line_len.result c.loop-rest.rest.now) = c.content_of.ensures ∙ ap content c.split_at.ensures.front in
     let ok : is_ok c.add.result ≡ true = ap is_ok c.in_ok-add.was in
     rw c.split_at.ensures.back
-    (read_more c.args.bytes.now c.loop-rest.rest.now c.loop-rest.number c.loop-rest.script.turns c.loop-rest.script.events c.loop-rest.invariant
+    (script_more c.args.bytes.now c.loop-rest.rest.now c.loop-rest.number c.loop-rest.lines.inputs c.loop-rest.lines.events c.loop-rest.lines.turns c.loop-rest.invariant
     c.line_len.result c.line_len.ensures.first c.line_len.ensures.some c.line_len.ensures.within
     (line_of c.in-Some.line) c.in-Some.ensures.0 (sym said ∙ c.in-Some.ensures.1)
-    c.add.new.self.turns c.add.new.self.events (at_ok c.add.result ok c.add.ensures.turns) (at_ok c.add.result ok c.add.ensures.events))
+    c.add.new.self.inputs c.add.new.self.events c.add.new.self.turns
+    (at_ok c.add.result ok c.add.ensures.inputs) (at_ok c.add.result ok c.add.ensures.events) (at_ok c.add.result ok c.add.ensures.turns))

@@ -1,6 +1,6 @@
 use Rattle.std.proofs.Common.{◌≡◌, ◌≤◌, ◌+◌, drop, length, map}
-use Rattle.meaning.specs.declared.small.record.Record.TheVariants.{Noted}
-use Rattle.meaning.specs.small.Trace.{added_all}
+use Rattle.meaning.specs.declared.record.Record.TheVariants.{Noted}
+use Rattle.meaning.specs.Records.{added_all}
 use Rattle.system.proofs.record.record_notes.Given as goal
 
 -- the records so far, and those of the notes that are left, are all of them; there is room for these

@@ -1,6 +1,6 @@
 use Rattle.std.proofs.Common.{◌≡◌, ℕ, ◌-◌, ◌<◌, suc, zero, List, [], ◌∷◌, ◌++◌, length, ap, sym, Option, Some, None, arith, slice_get, slice_set, MatchOption}
-use Rattle.meaning.specs.declared.small.record.Record.{Record}
-use Rattle.meaning.specs.small.Trace.{joined, added}
+use Rattle.meaning.specs.declared.record.Record.{Record}
+use Rattle.meaning.specs.Records.{joined, added}
 use Rattle.trace.proofs.records.joined_last.Goals as goal
 
 -- behind a last record that stays

@@ -1,5 +1,0 @@
-pub mod Machine
-pub mod Program
-pub mod Run
-pub mod Trace
-pub mod Transfers

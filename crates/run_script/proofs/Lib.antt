@@ -1,4 +1,0 @@
-pub mod EffectLemmas
-pub mod LineTexts
-pub mod LinesAreRead
-pub mod OneAnswer

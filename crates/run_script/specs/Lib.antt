@@ -1,3 +1,0 @@
-pub mod Script
-pub mod Theorems
-pub mod inner

@@ -1,5 +1,0 @@
-mod FramesBottomFirst
-mod FramesStandAtInstructions
-mod RecordsGoLast
-mod RunsInParts
-mod ValidBodies
