@@ -23,7 +23,11 @@ fn repeated(
 
 #[test]
 fn small_sources_pass_limits(rt: HostRuntime) -> Result<(), Fail> {
-    let rows: [(&[u8], Option<LimitName>); 12] = [
+    let rows: [(&[u8], Option<LimitName>); 13] = [
+        (
+            b"int a[65536]; int b; int main(void){return 0;}",
+            Some(LimitName::Globals),
+        ),
         (b"int a[65535];int x;int main(void){return 0;}", None),
         (
             b"int a[65536];int x;int main(void){return 0;}",

@@ -131,3 +131,19 @@ fn a_short_main_has_fourteen_instructions(rt: HostRuntime) -> Result<(), Fail> {
     assert_eq!(rt; program.entry, 1);
     Ok(())
 }
+
+#[test]
+fn a_call_through_a_global_has_eleven_instructions(rt: HostRuntime) -> Result<(), Fail> {
+    let source = b"\
+        void (*h)(void);\nvoid a(void){print(1);}\nvoid b(void){print(2);}\n\
+        int main(void){h=a;h();return 0;}\n"
+        .as_slice();
+    let program = answer(rt.alloc(), source)??;
+    let mut lengths = Vec::new(rt.alloc());
+    for function in program.functions.as_slice() {
+        lengths.push(function.body.len())?;
+    }
+    assert_eq!(rt; lengths.as_slice(), [3, 3, 11, 2].as_slice());
+    assert_eq!(rt; program.entry, 3);
+    Ok(())
+}
