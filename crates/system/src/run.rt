@@ -13,7 +13,7 @@ use meaning::{Event, Events, Inputs, Record};
 use plain_seq::Plain;
 use region_seq::Region;
 use std::alloc::{AllocError, Global};
-use thread_engine::Thread;
+use thread_engine::{Notes, Thread};
 use trace::Trace;
 
 /// The state of a run: the safe store, ordinary memory and the threads. A thread that was cut off is none.
@@ -21,6 +21,8 @@ use trace::Trace;
 pub struct System {
     memories: Memories,
     threads: Vec<Option<Thread>>,
+    /// What the last turn told: one list for all turns.
+    notes: Notes,
 }
 
 /// The threads of a run, before their first turns.
@@ -77,7 +79,11 @@ impl System {
             inputs: Inputs::from_slice(alloc, inputs.as_slice())?,
         };
         let threads = open_threads(alloc, code, threads)?;
-        Ok(System { memories, threads })
+        Ok(System {
+            memories,
+            threads,
+            notes: Notes::new(),
+        })
     }
 
     /// A turn of a thread, which is recorded. It does nothing where the thread has ended or stopped, or there is no
@@ -103,7 +109,7 @@ impl System {
         let Some(seat) = self.threads.get_mut(usize::from(t)) else {
             return Ok(());
         };
-        turn_seat(code, t, seat, &mut self.memories, trace)?;
+        turn_seat(code, t, seat, &mut self.memories, &mut self.notes, trace)?;
         Ok(())
     }
 

@@ -18,13 +18,13 @@ use super::record::record_turn;
 use machine::Code;
 use meaning::{Note, Record, Stop};
 use std::alloc::AllocError;
-use thread_engine::Thread;
+use thread_engine::{Notes, Thread};
 use trace::Trace;
 
 /// The most records of a turn: its action, a transfer, and a function for each parameter.
 const MOST_RECORDS: usize = 11;
 
-/// A turn of live thread `t`, which is recorded.
+/// A turn of live thread `t`, which is recorded, with its notes put in place of these.
 ///
 /// # Errors
 ///
@@ -35,6 +35,7 @@ fn take_turn(
     t: u8,
     thread: &mut Thread,
     memories: &mut Memories,
+    notes: &mut Notes,
     trace: &mut Trace,
 ) -> Result<(), AllocError>
     requires valid { ValidCode code.now }
@@ -58,12 +59,12 @@ fn take_turn(
     trace.reserve(MOST_RECORDS)?;
     let action = thread.next(code);
     let reply = memories.answer(action)?;
-    let notes = thread.resume(code, reply)?;
+    thread.resume_into(code, reply, notes)?;
     record_turn(trace, t, action, reply, notes.as_slice());
     Ok(())
 }
 
-/// A turn of thread `t`, unless it isn't live.
+/// A turn of thread `t`, unless it isn't live. Its notes are put in place of these.
 ///
 /// # Errors
 ///
@@ -74,6 +75,7 @@ pub fn turn_seat(
     t: u8,
     seat: &mut Option<Thread>,
     memories: &mut Memories,
+    notes: &mut Notes,
     trace: &mut Trace,
 ) -> Result<(), AllocError>
     requires valid { ValidCode code.now }
@@ -94,7 +96,7 @@ pub fn turn_seat(
 {
     match seat {
         Some(thread) if thread.is_live() => {
-            take_turn(code, t, thread, memories, trace)?;
+            take_turn(code, t, thread, memories, notes, trace)?;
             Ok(())
         }
         _ => Ok(()),

@@ -35,7 +35,7 @@ impl Model for Notes {
 
 impl Notes {
     /// No note.
-    pub(crate) fn new() -> Notes
+    pub fn new() -> Notes
         ensures { result ≡ [] }
     {
         Notes {
@@ -44,13 +44,11 @@ impl Notes {
         }
     }
 
-    /// One note.
-    pub(crate) fn one(note: Note) -> Notes
-        ensures { result ≡ note ∷ [] }
+    /// No note any more.
+    pub(crate) fn clear(&mut self)
+        ensures { self.new ≡ [] }
     {
-        let mut notes = Notes::new();
-        notes.push(note);
-        notes
+        self.len = 0;
     }
 
     /// How many there are.

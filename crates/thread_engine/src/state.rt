@@ -195,42 +195,41 @@ impl State {
     }
 
     /// The thread stops.
-    fn stop(&mut self, why: Stop) -> Notes
+    fn stop(&mut self, why: Stop, notes: &mut Notes)
         requires kept { IsKept self.old }
+        requires empty { notes.old ≡ [] }
         ensures kept { IsKept self.new }
-        ensures gives { Gives self.new result (thread.stops why) }
+        ensures gives { Gives self.new notes.new (thread.stops why) }
     {
         self.phase = Phase::Stopped(why);
-        Notes::one(Note::Stopped(why))
+        notes.push(Note::Stopped(why));
     }
 
     /// A start word was read: the thread starts where a function of its type was found, and waits
     /// where nothing was.
-    fn wait(&mut self, code: &Code, answer: Reply) -> Notes
+    fn wait(&mut self, code: &Code, answer: Reply, notes: &mut Notes)
         requires waiting { self.old.phase ≡ Phase.Waiting }
         requires kept { IsKept self.old }
+        requires empty { notes.old ≡ [] }
         ensures kept { IsKept self.new }
-        ensures gives { Gives self.new result (spec.started code.now (spec.found_entry answer)) }
+        ensures gives { Gives self.new notes.new (spec.started code.now (spec.found_entry answer)) }
     {
-        match found_entry(answer) {
-            None => Notes::new(),
-            Some(entry) => self.start(Callee::of_start(code, loaded_entry(Some(entry)))),
+        if let Some(entry) = found_entry(answer) {
+            self.start(Callee::of_start(code, loaded_entry(Some(entry))), notes);
         }
     }
 
     /// A start word was found that leads there.
-    fn start(&mut self, callee: Callee) -> Notes
+    fn start(&mut self, callee: Callee, notes: &mut Notes)
         requires waiting { self.old.phase ≡ Phase.Waiting }
         requires kept { IsKept self.old }
+        requires empty { notes.old ≡ [] }
         ensures kept { IsKept self.new }
-        ensures gives { Gives self.new result (spec.start_by (callee_of callee)) }
+        ensures gives { Gives self.new notes.new (spec.start_by (callee_of callee)) }
     {
         match callee {
-            Callee::Reaches(f) => {
-                self.phase = Phase::Starting(f);
-                Notes::new()
-            }
-            Callee::Refused(why) => self.stop(why),
+            Callee::Reaches(f) => self.phase = Phase::Starting(f),
+            Callee::Refused(why) => self.stop(why, notes),
         }
     }
 
@@ -242,41 +241,42 @@ impl State {
         number: u8,
         f: u32,
         answer: Reply,
-    ) -> Result<Notes, AllocError>
+        notes: &mut Notes,
+    ) -> Result<(), AllocError>
         requires valid { ValidCode code.now }
         requires starting { self.old.phase ≡ Phase.Starting f }
         requires kept { IsKept self.old }
+        requires empty { notes.old ≡ [] }
         ensures kept { IsKept self.new }
-        ensures gives { IfOk result (λ notes. Gives self.new notes
+        ensures gives { OnOk result (Gives self.new notes.new
             (thread.begins protected code.now number f (value.loaded_entry (spec.found_entry answer)))) }
         ensures err { OnErr result (self.new ≡ self.old) }
     {
         let argument = loaded_entry(found_entry(answer));
         let arguments = Vec::from_slice(alloc, &[argument])?;
-        let mut notes = Notes::one(Note::Start {
+        notes.push(Note::Start {
             f,
             at: start_address(number),
         });
-        tell_arguments(&mut notes, 0, code, f, arguments.as_slice());
+        tell_arguments(notes, 0, code, f, arguments.as_slice());
         let frame = open_frame(alloc, code, f, arguments)?;
         self.stack.begin(frame);
         self.phase = Phase::Running;
-        Ok(notes)
+        Ok(())
     }
 
     /// To a place of the top frame.
-    fn go(&mut self, to: u32, write: Write) -> Notes
+    fn go(&mut self, to: u32, write: Write, notes: &mut Notes)
         requires running { self.old.phase ≡ Phase.Running }
         requires kept { IsKept self.old }
         requires few { length self.old.stack.below.items < 4096 }
+        requires empty { notes.old ≡ [] }
         ensures kept { IsKept self.new }
-        ensures gives { (code : Code) → Gives self.new result
+        ensures gives { (code : Code) → Gives self.new notes.new
             (thread.applied protected code (top_of self.old.stack) (below_of self.old.stack) (model.Goes to (write_of write))) }
     {
-        let mut notes = Notes::new();
         notes.tell_write(self.stack.depth(), write);
         self.stack.go(to, write);
-        notes
     }
 
     /// Into a function, with what these registers have as arguments.
@@ -288,44 +288,48 @@ impl State {
         f: u32,
         through: Option<Place>,
         registers: &[u32],
-    ) -> Result<Notes, AllocError>
+        notes: &mut Notes,
+    ) -> Result<(), AllocError>
         requires valid { ValidCode code.now }
         requires running { self.old.phase ≡ Phase.Running }
         requires place { self.old.stack.top.place < 65536 }
         requires kept { IsKept self.old }
         requires sound { IsSound code.now (thread_of self.old) }
         requires room { thread.has_room code.now (frames_of self.old.stack) f ≡ true }
+        requires empty { notes.old ≡ [] }
         ensures kept { IsKept self.new }
         ensures gives { let arguments = map (shape.register protected (top_of self.old.stack)) registers.now in
-            IfOk result (λ notes. Gives self.new notes
+            OnOk result (Gives self.new notes.new
             (thread.enters protected code.now (top_of self.old.stack) (below_of self.old.stack) f arguments through)) }
         ensures err { OnErr result (self.new ≡ self.old) }
     {
         let arguments = values_in(alloc, &self.stack.top, registers)?;
         let depth = self.stack.depth() + 1;
-        let mut notes = Notes::one(transfer(depth, f, self.stack.top.place, through));
-        tell_arguments(&mut notes, depth, code, f, arguments.as_slice());
+        notes.push(transfer(depth, f, self.stack.top.place, through));
+        tell_arguments(notes, depth, code, f, arguments.as_slice());
         let frame = open_frame(alloc, code, f, arguments)?;
         self.stack.enter(frame);
-        Ok(notes)
+        Ok(())
     }
 
     /// Out of the top frame, with a result. Out of the bottom one, the thread ends.
-    fn leave(&mut self, code: &Code, value: Value) -> Notes
+    fn leave(&mut self, code: &Code, value: Value, notes: &mut Notes)
         requires valid { ValidCode code.now }
         requires running { self.old.phase ≡ Phase.Running }
         requires kept { IsKept self.old }
         requires sound { IsSound code.now (thread_of self.old) }
+        requires empty { notes.old ≡ [] }
         ensures kept { IsKept self.new }
-        ensures gives { Gives self.new result (thread.leaves protected code.now (below_of self.old.stack) value) }
+        ensures gives { Gives self.new notes.new (thread.leaves protected code.now (below_of self.old.stack) value) }
     {
         if !self.stack.leave() {
             self.phase = Phase::Ended;
-            return Notes::one(Note::End);
+            notes.push(Note::End);
+            return;
         }
         let place = self.stack.top.place;
         let depth = self.stack.depth();
-        let mut notes = Notes::one(Note::Return {
+        notes.push(Note::Return {
             depth: depth + 1,
             f: self.stack.top.function,
             to: place,
@@ -333,7 +337,6 @@ impl State {
         let write = result_write(result_slot(code, &self.stack.top), value);
         notes.tell_write(depth, write);
         self.stack.go(place, write);
-        notes
     }
 
     /// What an effect does.
@@ -343,7 +346,8 @@ impl State {
         code: &Code,
         effect: Effect,
         registers: &[u32],
-    ) -> Result<Notes, AllocError>
+        notes: &mut Notes,
+    ) -> Result<(), AllocError>
         requires valid { ValidCode code.now }
         requires running { self.old.phase ≡ Phase.Running }
         requires place { self.old.stack.top.place < 65536 }
@@ -351,39 +355,50 @@ impl State {
         requires sound { IsSound code.now (thread_of self.old) }
         requires fits { let arguments = map (shape.register protected (top_of self.old.stack)) registers.now in
             EffectFits code.now (frames_of self.old.stack) (effect_of arguments effect) }
+        requires empty { notes.old ≡ [] }
         ensures kept { IsKept self.new }
         ensures gives { let arguments = map (shape.register protected (top_of self.old.stack)) registers.now in
-            IfOk result (λ notes. Gives self.new notes
+            OnOk result (Gives self.new notes.new
             (thread.applied protected code.now (top_of self.old.stack) (below_of self.old.stack) (effect_of arguments effect))) }
         ensures err { OnErr result (self.new ≡ self.old) }
     {
         match effect {
-            Effect::Stops(why) => Ok(self.stop(why)),
-            Effect::Goes { to, write } => Ok(self.go(to, write)),
-            Effect::Enters { f, through } => self.enter(alloc, code, f, through, registers),
-            Effect::Leaves(value) => Ok(self.leave(code, value)),
+            Effect::Stops(why) => self.stop(why, notes),
+            Effect::Goes { to, write } => self.go(to, write, notes),
+            Effect::Enters { f, through } => {
+                return self.enter(alloc, code, f, through, registers, notes);
+            }
+            Effect::Leaves(value) => self.leave(code, value, notes),
         }
+        Ok(())
     }
 
     /// The action of the top frame's instruction was answered.
-    fn step(&mut self, alloc: Global, code: &Code, answer: Reply) -> Result<Notes, AllocError>
+    fn step(
+        &mut self,
+        alloc: Global,
+        code: &Code,
+        answer: Reply,
+        notes: &mut Notes,
+    ) -> Result<(), AllocError>
         requires valid { ValidCode code.now }
         requires running { self.old.phase ≡ Phase.Running }
         requires kept { IsKept self.old }
         requires sound { IsSound code.now (thread_of self.old) }
         requires fits { StepFits code.now (top_of self.old.stack) (below_of self.old.stack) answer }
+        requires empty { notes.old ≡ [] }
         ensures kept { IsKept self.new }
-        ensures gives { IfOk result (λ notes. Gives self.new notes
+        ensures gives { OnOk result (Gives self.new notes.new
             (spec.resumed_by code.now (top_of self.old.stack) (below_of self.old.stack) answer
             (spec.shape_in code.now (top_of self.old.stack) (below_of self.old.stack)))) }
         ensures err { OnErr result (self.new ≡ self.old) }
     {
         let depth = self.stack.depth();
         match place_at(code, self.stack.top.function, self.stack.top.place) {
-            None => Ok(Notes::new()),
+            None => Ok(()),
             Some(place) => {
                 let effect = effect_at(code, depth, &self.stack.top, answer, place);
-                self.apply(alloc, code, effect, arguments_at(place))
+                self.apply(alloc, code, effect, arguments_at(place), notes)
             }
         }
     }
@@ -409,23 +424,28 @@ impl State {
         code: &Code,
         number: u8,
         answer: Reply,
-    ) -> Result<Notes, AllocError>
+        notes: &mut Notes,
+    ) -> Result<(), AllocError>
         requires valid { ValidCode code.now }
         requires kept { IsKept self.old }
         requires sound { IsSound code.now (thread_of self.old) }
         requires goes { halt_of (spec.next code.now number (thread_of self.old)) ≡ None }
         requires fits { Fits (spec.next code.now number (thread_of self.old)) answer }
         requires there { SlotsAreThere (spec.next code.now number (thread_of self.old)) answer }
+        requires empty { notes.old ≡ [] }
         ensures kept { IsKept self.new }
-        ensures gives { IfOk result (λ notes. Gives self.new notes
+        ensures gives { OnOk result (Gives self.new notes.new
             (spec.answered code.now number (thread_of self.old) answer)) }
         ensures err { OnErr result (self.new ≡ self.old) }
     {
         match self.phase {
-            Phase::Waiting => Ok(self.wait(code, answer)),
-            Phase::Starting(f) => self.begin(alloc, code, number, f, answer),
-            Phase::Running => self.step(alloc, code, answer),
-            Phase::Ended | Phase::Stopped(_) => Ok(Notes::new()),
+            Phase::Waiting => {
+                self.wait(code, answer, notes);
+                Ok(())
+            }
+            Phase::Starting(f) => self.begin(alloc, code, number, f, answer, notes),
+            Phase::Running => self.step(alloc, code, answer, notes),
+            Phase::Ended | Phase::Stopped(_) => Ok(()),
         }
     }
 
@@ -437,20 +457,25 @@ impl State {
         code: &Code,
         number: u8,
         answer: Reply,
-    ) -> Result<Notes, AllocError>
+        notes: &mut Notes,
+    ) -> Result<(), AllocError>
         requires valid { ValidCode code.now }
         requires kept { IsKept self.old }
         requires sound { IsSound code.now (thread_of self.old) }
         requires fits { Fits (spec.next code.now number (thread_of self.old)) answer }
         requires there { SlotsAreThere (spec.next code.now number (thread_of self.old)) answer }
+        requires empty { notes.old ≡ [] }
         ensures kept { IsKept self.new }
         ensures gives { let action = spec.next code.now number (thread_of self.old) in
-            IfOk result (λ notes. Gives self.new notes (spec.resume code.now number (thread_of self.old) action answer)) }
+            OnOk result (Gives self.new notes.new (spec.resume code.now number (thread_of self.old) action answer)) }
         ensures err { OnErr result (self.new ≡ self.old) }
     {
         match halt_of(self.next(code, number)) {
-            Some(why) => Ok(self.stop(why)),
-            None => self.answered(alloc, code, number, answer),
+            Some(why) => {
+                self.stop(why, notes);
+                Ok(())
+            }
+            None => self.answered(alloc, code, number, answer, notes),
         }
     }
 }

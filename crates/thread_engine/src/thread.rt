@@ -1,6 +1,6 @@
 //! A thread as callers see it.
 
-ghost use Rattle.std.specs.Prelude.{◌≡◌, ◌↔◌, IfOk, OnErr, IsTrue};
+ghost use Rattle.std.specs.Prelude.{◌≡◌, ◌↔◌, IfOk, OnOk, OnErr, IsTrue};
 ghost use Rattle.meaning.specs.Action.{Fits};
 ghost use Rattle.machine.specs.Frames as model;
 ghost use Rattle.machine.specs.Logs.{first_thread};
@@ -94,6 +94,33 @@ impl Thread {
         ensures err { OnErr result (self.new ≡ self.old) }
         ensures sound { IsSound code.now self.new.thread }
     {
-        self.state.resume(self.alloc, code, self.number, answer)
+        let mut notes = Notes::new();
+        self.resume_into(code, answer, &mut notes)?;
+        Ok(notes)
+    }
+
+    /// The same, with what the turn tells put in place of these notes: whoever takes many turns keeps one list for all.
+    ///
+    /// # Errors
+    ///
+    /// `AllocError`, where no memory is left for a new frame. The thread is as it was; the notes may not be.
+    pub fn resume_into(
+        &mut self,
+        code: &Code,
+        answer: Reply,
+        notes: &mut Notes,
+    ) -> Result<(), AllocError>
+        requires valid { ValidCode code.now }
+        requires sound { IsSound code.now self.old.thread }
+        requires fits { Fits (spec.next code.now self.old.number self.old.thread) answer }
+        requires there { SlotsAreThere (spec.next code.now self.old.number self.old.thread) answer }
+        ensures resumed { let action = spec.next code.now self.old.number self.old.thread in
+            let told = spec.resume code.now self.old.number self.old.thread action answer in
+            OnOk result ((self.new ≡ record self.old { thread = told.thread }) × (notes.new ≡ told.notes)) }
+        ensures err { OnErr result (self.new ≡ self.old) }
+        ensures sound { IsSound code.now self.new.thread }
+    {
+        notes.clear();
+        self.state.resume(self.alloc, code, self.number, answer, notes)
     }
 }

@@ -8,5 +8,5 @@ returns-clause-records c =
     c.args.trace.now.records c.reserve.new.self.records c.record_turn.new.trace.records
     c.next-action.result c.in_ok-reply.reply c.as_slice.result.now
     c.requires.number c.next-action.ensures c.in_ok-reply.ensures.reply
-    (c.as_slice.ensures.notes ∙ c.in_ok-notes.ensures.resumed.1)
+    (c.as_slice.ensures.notes ∙ c.in_ok-resume_into.ensures.resumed.1)
     c.in_ok-reserve.ensures.records c.record_turn.ensures.records

@@ -28,7 +28,7 @@ returns-clause-same c = λ code was.
     let items = self.threads.items in
     let seat = c.cut_seat.new.seat in
     let is = found items c.from.result c.args.t c.in-Some.seat.now c.from.ensures c.in-Some.ensures.item.3.0 c.in-Some.ensures.value in
-    system_after code self (record { memories = self.memories; threads = with_item self.threads c.from.result seat })
+    system_after code self (record { memories = self.memories; threads = with_item self.threads c.from.result seat; notes = self.notes })
     c.args.t seat was (record { slots = refl; threads = refl; inputs = refl })
     (ap (λ k. slice_set items k seat) c.from.ensures)
     (c.in_ok-cut_seat.ensures.seat code (was.each c.args.t c.in-Some.seat.now is))

@@ -27,6 +27,6 @@ returns-clause-same c =
     let self = c.args.self.now in
     let seat = c.turn_seat.new.seat in
     system_after c.args.code.now self
-    (record { memories = c.turn_seat.new.memories; threads = with_item self.threads c.from.result seat })
+    (record { memories = c.turn_seat.new.memories; threads = with_item self.threads c.from.result seat; notes = c.turn_seat.new.notes })
     c.args.t seat c.requires.same c.in_ok-turn_seat.ensures.kept
     (ap (λ k. slice_set self.threads.items k seat) c.from.ensures) c.in_ok-turn_seat.ensures.seat

@@ -13,5 +13,5 @@ pub returns-in-Goes-clause-gives : goal.returns-in-Goes-clause-gives
 returns-in-Goes-clause-gives c =
     let stack = c.args.self.now.stack in
     let arguments = map (register protected (top_of stack)) c.args.registers.now in
-    subst (λ (e : Effect). Gives c.go.new.self c.go.result (applied protected c.args.code.now (top_of stack) (below_of stack) (effect_of arguments e)))
+    subst (λ (e : Effect). Gives c.go.new.self c.go.new.notes (applied protected c.args.code.now (top_of stack) (below_of stack) (effect_of arguments e)))
     (sym c.in-Goes.is) (c.go.ensures.gives c.args.code.now)
