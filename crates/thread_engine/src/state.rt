@@ -1,6 +1,6 @@
 //! Where a thread stands, and where an answer leads it.
 
-ghost use Rattle.std.specs.Prelude.{◌≡◌, ◌<◌, ◌≤◌, ◌^◌, ◌++◌, [], length, map, take, Some, None, true, IfOk, OnOk, OnErr};
+ghost use Rattle.std.specs.Prelude.{◌≡◌, ℕ, ◌<◌, ◌≤◌, ◌^◌, ◌++◌, [], length, map, take, Some, None, true, IfOk, OnOk, OnErr};
 ghost use Rattle.meaning.specs.Action.{Fits};
 ghost use Rattle.meaning.specs.declared.value.Value.{Value};
 ghost use Rattle.machine.specs.Frames as model;
@@ -16,7 +16,7 @@ ghost use Rattle.thread_engine.specs.inner.Frames.{below_of, frame_of, frames_of
 ghost use Rattle.thread_engine.specs.inner.Turns.{EffectFits, StepFits, callee_of, effect_of, halt_of, write_of};
 ghost use Rattle.thread_engine.specs.inner.Views.{Gives, IsKept, thread_of};
 
-use crate::action::{action_in, argument_address, start_address};
+use crate::action::{action_in, argument_address, halt_in, start_address};
 use crate::callee::Callee;
 use crate::effect::{Effect, Write, effect_at};
 use crate::frame::Frame;
@@ -53,16 +53,6 @@ fn found_entry(answer: Reply) -> Option<Entry>
 {
     match answer {
         Reply::Found(found) => found,
-        _ => None,
-    }
-}
-
-/// Why an action stops the thread, if it does.
-fn halt_of(action: Action) -> Option<Stop>
-    ensures { result ≡ halt_of action }
-{
-    match action {
-        Action::Halt(why) => Some(why),
         _ => None,
     }
 }
@@ -417,6 +407,18 @@ impl State {
         }
     }
 
+    /// Why the thread stops in its next turn, if it does.
+    fn halts(&self, code: &Code) -> Option<Stop>
+        requires kept { IsKept self.now }
+        requires sound { IsSound code.now (thread_of self.now) }
+        ensures { (t : ℕ) → result ≡ halt_of (spec.next code.now t (thread_of self.now)) }
+    {
+        match self.phase {
+            Phase::Running => halt_in(code, &self.stack),
+            Phase::Waiting | Phase::Starting(_) | Phase::Ended | Phase::Stopped(_) => None,
+        }
+    }
+
     /// Where the answer of an action that doesn't stop the thread leads it.
     fn answered(
         &mut self,
@@ -470,7 +472,7 @@ impl State {
             OnOk result (Gives self.new notes.new (spec.resume code.now number (thread_of self.old) action answer)) }
         ensures err { OnErr result (self.new ≡ self.old) }
     {
-        match halt_of(self.next(code, number)) {
+        match self.halts(code) {
             Some(why) => {
                 self.stop(why, notes);
                 Ok(())

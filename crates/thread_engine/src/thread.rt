@@ -121,6 +121,7 @@ impl Thread {
         ensures sound { IsSound code.now self.new.thread }
     {
         notes.clear();
-        self.state.resume(self.alloc, code, self.number, answer, notes)
+        self.state
+            .resume(self.alloc, code, self.number, answer, notes)
     }
 }
