@@ -1,9 +1,9 @@
 -- Whole bodies, from their parts.
 use Rattle.std.proofs.Common.{◌≡◌, ◌∙◌, ℕ, max, List, [], ◌∷◌, ◌++◌, length, ap, sym, subst, arith, Result, Ok, Err}
 use Rattle.core_ir.specs.declared.instr.Instr.{Instr}
-use Rattle.elab_expr.specs.Emits.{IsSound, Stops}
-use Rattle.elab_expr.specs.declared.emitter.Trouble.{Trouble}
-use Rattle.elab_expr.specs.declared.emitter.Trouble.TheVariants.{TooLong, Memory}
+use Rattle.elab_emit.specs.Emits.{IsSound, Stops}
+use Rattle.elab_emit.specs.declared.emitter.Trouble.{Trouble}
+use Rattle.elab_emit.specs.declared.emitter.Trouble.TheVariants.{TooLong, Memory}
 use Rattle.elab_pieces.specs.Lines.{Piece, PieceCode, all_joined, led, plain_lines}
 use Rattle.elab.specs.declared.body.Body.{Body}
 use Rattle.elab.specs.inner.Bodies.{Grows, PieceOutcome, PutAll, Reaches, piece_at}

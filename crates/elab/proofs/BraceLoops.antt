@@ -4,9 +4,9 @@ use Rattle.std.proofs.lemmas.List.{at_drop_all, at_drop_more}
 use Rattle.c_types.specs.declared.structs.Member.{Member}
 use Rattle.c_types.specs.declared.ty.Ty.{Ty}
 use Rattle.c_typed.specs.declared.statement.TypedInit.{TypedInit}
-use Rattle.elab_expr.specs.Emits.{IsSound}
+use Rattle.elab_emit.specs.Emits.{IsSound}
 use Rattle.elab_rows.specs.Units.{repeated, units}
-use Rattle.elab_expr.specs.declared.emitter.Trouble.{Trouble}
+use Rattle.elab_emit.specs.declared.emitter.Trouble.{Trouble}
 use Rattle.elab_rows.specs.declared.scope.Scope.{Scope}
 use Rattle.elab_pieces.specs.Initialisers.{Leaves, all_scalars, leaves}
 use Rattle.elab_pieces.specs.Lines.{Piece, PieceCode, joined}

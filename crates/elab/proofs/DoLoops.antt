@@ -2,10 +2,10 @@
 use Rattle.std.proofs.Common.{◌≡◌, ◌∙◌, ℕ, ◌+◌, max, List, [], ◌∷◌, ◌++◌, length, ap, sym, subst, arith, append_assoc, length-append, Result, Ok, Err}
 use Rattle.core_ir.specs.declared.instr.Instr.TheVariants.{Branch, Jump}
 use Rattle.elab_rows.specs.Choices.{tested}
-use Rattle.elab_expr.specs.Emits.{Stops}
+use Rattle.elab_emit.specs.Emits.{Stops}
 use Rattle.elab_rows.specs.Made.{Code, Made}
-use Rattle.elab_expr.specs.declared.emitter.Trouble.{Trouble}
-use Rattle.elab_expr.specs.declared.emitter.Trouble.TheVariants.{TooLong, Memory}
+use Rattle.elab_emit.specs.declared.emitter.Trouble.{Trouble}
+use Rattle.elab_emit.specs.declared.emitter.Trouble.TheVariants.{TooLong, Memory}
 use Rattle.elab_pieces.specs.Lines.{Piece, PieceCode, led}
 use Rattle.elab_pieces.specs.Statements.{do_code, do_made}
 use Rattle.elab.specs.declared.body.Body.{Body}

@@ -5,8 +5,8 @@ use Rattle.c_typed.specs.declared.statement.TypedInit.{out-TypedInit, out-roll-T
 use Rattle.c_typed.specs.declared.statement.TypedInit.TheOpen.{TypedInit-F}
 use Rattle.c_typed.specs.declared.statement.TypedInit.TheVariants as init
 use Rattle.elab_rows.specs.Addresses.{global_address}
-use Rattle.elab_expr.specs.Emits.{IsSound, Stops}
-use Rattle.elab_expr.specs.declared.emitter.Trouble.{Trouble}
+use Rattle.elab_emit.specs.Emits.{IsSound, Stops}
+use Rattle.elab_emit.specs.declared.emitter.Trouble.{Trouble}
 use Rattle.elab_rows.specs.Units.{scalars}
 use Rattle.elab_rows.specs.declared.scope.Scope.{Scope}
 use Rattle.elab_pieces.specs.Entry.{globals_initialised, optional_given, strings_initialised}

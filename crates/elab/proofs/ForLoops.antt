@@ -4,10 +4,10 @@ use Rattle.std.specs.Option.{option_map}
 use Rattle.core_ir.specs.declared.instr.Instr.{Instr}
 use Rattle.core_ir.specs.declared.instr.Instr.TheVariants.{Branch, Jump}
 use Rattle.elab_rows.specs.Choices.{tested}
-use Rattle.elab_expr.specs.Emits.{Stops}
+use Rattle.elab_emit.specs.Emits.{Stops}
 use Rattle.elab_rows.specs.Made.{Code, Made}
-use Rattle.elab_expr.specs.declared.emitter.Trouble.{Trouble}
-use Rattle.elab_expr.specs.declared.emitter.Trouble.TheVariants.{TooLong, Memory}
+use Rattle.elab_emit.specs.declared.emitter.Trouble.{Trouble}
+use Rattle.elab_emit.specs.declared.emitter.Trouble.TheVariants.{TooLong, Memory}
 use Rattle.elab_pieces.specs.Lines.{Piece, PieceCode, led}
 use Rattle.elab_pieces.specs.Statements.{does, loop_code, loop_made, test_length, test_lines, test_registers, test_slot}
 use Rattle.elab.specs.declared.body.Body.{Body}

@@ -3,11 +3,11 @@ use Rattle.std.proofs.Common.{◌≡◌, ◌∙◌, ℕ, ◌+◌, Bool, List, []
 use Rattle.core_ir.specs.declared.instr.Instr.{Instr}
 use Rattle.core_ir.specs.declared.instr.Instr.TheVariants.{Store, Touch}
 use Rattle.elab_rows.specs.Addresses.{Lvalue, assigned}
-use Rattle.elab_expr.specs.Emits.{Outcome, PutOutcome, code_of}
+use Rattle.elab_emit.specs.Emits.{Outcome, PutOutcome, code_of}
 use Rattle.elab_rows.specs.Made.{Code, Made, behind, followed, held}
-use Rattle.elab_expr.specs.declared.emitter.Emitter.{Emitter}
-use Rattle.elab_expr.specs.declared.emitter.Trouble.{Trouble}
-use Rattle.elab_expr.specs.declared.emitter.Trouble.TheVariants.{TooLong, Memory}
+use Rattle.elab_emit.specs.declared.emitter.Emitter.{Emitter}
+use Rattle.elab_emit.specs.declared.emitter.Trouble.{Trouble}
+use Rattle.elab_emit.specs.declared.emitter.Trouble.TheVariants.{TooLong, Memory}
 use Rattle.elab_pieces.specs.Lines.{led}
 use Rattle.elab_pieces.specs.Statements.{leaving, returned}
 use Rattle.elab.specs.declared.body.Body.{Body}

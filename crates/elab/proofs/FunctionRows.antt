@@ -9,8 +9,8 @@ use Rattle.c_typed.specs.declared.unit.TypedFn.{TypedFn}
 use Rattle.core_ir.specs.declared.program.Local.{Local}
 use Rattle.core_ir.specs.Layout.{local_units}
 use Rattle.core_ir.specs.Valid.{most_frame_units}
-use Rattle.elab_expr.specs.declared.emitter.Trouble.{Trouble}
-use Rattle.elab_expr.specs.declared.emitter.Trouble.TheVariants.{TooLong, Memory}
+use Rattle.elab_emit.specs.declared.emitter.Trouble.{Trouble}
+use Rattle.elab_emit.specs.declared.emitter.Trouble.TheVariants.{TooLong, Memory}
 use Rattle.elab_rows.specs.declared.scope.Scope.{Scope}
 use Rattle.elab_rows.specs.declared.scope.Standing.{Standing}
 use Rattle.elab_rows.specs.Scope.{slots_behind, standings}

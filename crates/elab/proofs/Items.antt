@@ -1,8 +1,8 @@
 -- Loops over lists, whose items have pieces: what is there, and what is left.
 use Rattle.std.proofs.Common.{ℕ, ◌+◌, ◌<◌, List, ◌∷◌, length, map, drop, get_or, subst, Ok}
 use Rattle.std.proofs.lemmas.List.{at_drop_more}
-use Rattle.elab_expr.specs.Emits.{IsSound, Stops}
-use Rattle.elab_expr.specs.declared.emitter.Trouble.{Trouble}
+use Rattle.elab_emit.specs.Emits.{IsSound, Stops}
+use Rattle.elab_emit.specs.declared.emitter.Trouble.{Trouble}
 use Rattle.elab_pieces.specs.Lines.{Piece, PieceCode, all_joined, led}
 use Rattle.elab.specs.declared.body.Body.{Body}
 use Rattle.elab.specs.declared.open.Open.{Open}

@@ -1,8 +1,8 @@
 -- One emission behind another: lines of statements, full expressions, and lists of both.
 use Rattle.std.proofs.Common.{◌≡◌, ◌∙◌, ℕ, ◌+◌, max, List, [], ◌∷◌, ◌++◌, length, ap, refl, sym, subst, arith, append_assoc, append-nil, length-append, Result, Ok, Err}
-use Rattle.elab_expr.specs.Emits.{IsSound, Stops}
-use Rattle.elab_expr.specs.declared.emitter.Trouble.{Trouble}
-use Rattle.elab_expr.specs.declared.emitter.Trouble.TheVariants.{TooLong, Memory}
+use Rattle.elab_emit.specs.Emits.{IsSound, Stops}
+use Rattle.elab_emit.specs.declared.emitter.Trouble.{Trouble}
+use Rattle.elab_emit.specs.declared.emitter.Trouble.TheVariants.{TooLong, Memory}
 use Rattle.elab_pieces.specs.Lines.{Piece, PieceCode, all_joined, joined, led}
 use Rattle.elab.specs.declared.body.Body.{Body}
 use Rattle.elab.specs.declared.open.Open.{Open}

@@ -5,8 +5,8 @@ use Rattle.std.proofs.Math.ListN.{length-set}
 use Rattle.std.proofs.Math.Seq.{set-append_seam}
 use Rattle.core_ir.specs.declared.instr.Instr.{Instr}
 use Rattle.core_ir.specs.declared.instr.Instr.TheVariants.{Jump}
-use Rattle.elab_expr.specs.Emits.{IsSound}
-use Rattle.elab_expr.specs.declared.emitter.Emitter.{Emitter}
+use Rattle.elab_emit.specs.Emits.{IsSound}
+use Rattle.elab_emit.specs.declared.emitter.Emitter.{Emitter}
 use Rattle.elab_pieces.specs.Lines.{Breaks, Continues, Does, Line, led, led_line}
 use Rattle.elab_pieces.specs.Statements.{does}
 use Rattle.elab.specs.declared.open.Open.{Open}

@@ -10,7 +10,7 @@ use Rattle.elab_rows.specs.Addresses.{assigned}
 use Rattle.elab_rows.specs.Made.{Code, converted}
 use Rattle.elab_rows.specs.Rows.{number}
 use Rattle.elab_rows.specs.Units.{repeated, units}
-use Rattle.elab_expr.specs.declared.emitter.Trouble.{Trouble}
+use Rattle.elab_emit.specs.declared.emitter.Trouble.{Trouble}
 use Rattle.elab_rows.specs.declared.scope.Scope.{Scope}
 use Rattle.elab_pieces.specs.Initialisers.{ByByte, ByExpr, Leaf, Leaves, Missing, all_scalars, brace_leaves, given_leaves, is_given, leaf, leaf_assigned, leaf_code, missing, text_leaves}
 use Rattle.elab_pieces.specs.Lines.{PieceCode, all_full, full, joined, joined_made, no_lines}

@@ -4,10 +4,10 @@ use Rattle.std.proofs.lemmas.List.{at_drop_all, at_drop_more}
 use Rattle.c_types.specs.declared.ty.Ty.{Ty}
 use Rattle.c_types.specs.declared.ty.Ty.TheVariants as ty
 use Rattle.elab_rows.specs.Addresses.{assigned}
-use Rattle.elab_expr.specs.Emits.{Stops}
+use Rattle.elab_emit.specs.Emits.{Stops}
 use Rattle.elab_rows.specs.Made.{Code, converted}
 use Rattle.elab_rows.specs.Rows.{number}
-use Rattle.elab_expr.specs.declared.emitter.Trouble.{Trouble}
+use Rattle.elab_emit.specs.declared.emitter.Trouble.{Trouble}
 use Rattle.elab_pieces.specs.Lines.{Piece, PieceCode, all_full, full, joined, led}
 use Rattle.elab.specs.declared.body.Body.{Body}
 use Rattle.elab.specs.declared.targets.Target.{Target}

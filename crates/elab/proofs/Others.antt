@@ -4,10 +4,10 @@ use Rattle.std.specs.Prelude.{slice_set}
 use Rattle.std.proofs.Math.Seq.{set-append_seam}
 use Rattle.core_ir.specs.declared.instr.Instr.TheVariants.{Branch, Jump}
 use Rattle.elab_rows.specs.Choices.{tested}
-use Rattle.elab_expr.specs.Emits.{Stops}
+use Rattle.elab_emit.specs.Emits.{Stops}
 use Rattle.elab_rows.specs.Made.{Code, Made}
-use Rattle.elab_expr.specs.declared.emitter.Trouble.{Trouble}
-use Rattle.elab_expr.specs.declared.emitter.Trouble.TheVariants.{TooLong, Memory}
+use Rattle.elab_emit.specs.declared.emitter.Trouble.{Trouble}
+use Rattle.elab_emit.specs.declared.emitter.Trouble.TheVariants.{TooLong, Memory}
 use Rattle.elab_pieces.specs.Lines.{Does, Piece, PieceCode, led}
 use Rattle.elab_pieces.specs.Statements.{branch_lines, does, guarded, if_else_code, if_else_made, otherwise}
 use Rattle.elab.specs.declared.body.Body.{Body}

@@ -2,8 +2,8 @@
 use Rattle.std.proofs.Common.{◌≡◌, ◌∙◌, ℕ, suc, ◌+◌, ◌<◌, ◌≤◌, List, [], ◌∷◌, length, drop, get_or, sym, subst, refl, arith, Ok, Err}
 use Rattle.std.proofs.lemmas.List.{at_drop_all, at_drop_more}
 use Rattle.c_types.specs.declared.ty.Ty.{Ty}
-use Rattle.elab_expr.specs.Emits.{IsSound}
-use Rattle.elab_expr.specs.declared.emitter.Trouble.{Trouble}
+use Rattle.elab_emit.specs.Emits.{IsSound}
+use Rattle.elab_emit.specs.declared.emitter.Trouble.{Trouble}
 use Rattle.elab_rows.specs.declared.scope.Standing.{Standing}
 use Rattle.elab_pieces.specs.Functions.{copy_by, parameter_copies}
 use Rattle.elab_pieces.specs.Lines.{Piece, PieceCode, joined, no_lines}

@@ -14,9 +14,9 @@ use Rattle.c_typed.specs.declared.statement.TypedStmt.TheVariants as stmt
 use Rattle.std.specs.Option.{option_map}
 use Rattle.core_ir.specs.declared.instr.Instr.TheVariants.{Jump}
 use Rattle.elab_rows.specs.Choices.{tested}
-use Rattle.elab_expr.specs.Emits.{Stops}
+use Rattle.elab_emit.specs.Emits.{Stops}
 use Rattle.elab_rows.specs.Made.{Code}
-use Rattle.elab_expr.specs.declared.emitter.Trouble.{Trouble}
+use Rattle.elab_emit.specs.declared.emitter.Trouble.{Trouble}
 use Rattle.elab_rows.specs.Values.{converted_code}
 use Rattle.elab_rows.specs.declared.scope.Scope.{Scope}
 use Rattle.elab_pieces.specs.Lines.{Piece, PieceCode, all_full, all_joined, full, joined, led}

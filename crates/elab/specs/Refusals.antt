@@ -1,7 +1,7 @@
 -- What is refused, and what becomes of trouble.
 use Rattle.std.specs.Prelude.{◌≡◌, Option, Some, Result, Ok, Err}
-use Rattle.elab_expr.specs.declared.emitter.Trouble.{Trouble}
-use Rattle.elab_expr.specs.declared.emitter.Trouble.TheVariants as trouble
+use Rattle.elab_emit.specs.declared.emitter.Trouble.{Trouble}
+use Rattle.elab_emit.specs.declared.emitter.Trouble.TheVariants as trouble
 use Rattle.elab_pieces.specs.declared.limit.LimitName.{LimitName}
 use Rattle.elab_pieces.specs.declared.limit.LimitName.TheVariants as limit
 use Rattle.elab.specs.declared.error.ElabRefusal.{ElabRefusal}

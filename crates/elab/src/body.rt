@@ -3,13 +3,14 @@
 ghost use Rattle.std.specs.Prelude.{◌≡◌, [], length};
 ghost use Rattle.elab.specs.inner.Bodies.{FullOutcome, PutAll, made_at};
 ghost use Rattle.elab_pieces.specs.Statements.{leaving};
-ghost use Rattle.elab_expr.specs.Emits.{IsSound};
+ghost use Rattle.elab_emit.specs.Emits.{IsSound};
 ghost use Rattle.elab_rows.specs.Values.{converted_code, value_code};
 
 use c_typed::TypedExpr;
 use c_types::Ty;
 use core_ir::Instr;
-use elab_expr::{Emitter, Trouble, converted, put, value};
+use elab_emit::{Emitter, Trouble, put};
+use elab_expr::{converted, value};
 use elab_rows::Scope;
 use std::alloc::Global;
 

@@ -5,13 +5,13 @@ ghost use Rattle.std.specs.Option.{option_copied, option_map};
 ghost use Rattle.elab_pieces.specs.Statements.{value_of};
 ghost use Rattle.elab.specs.inner.Bodies.{made_at};
 ghost use Rattle.elab.specs.inner.Jumps.{AreWithin, DoOutcome, IsWithin, JumpOutcome, LoopOutcome, OptionalTest, Rewritten, TestOutcome, if_else_end, if_end};
-ghost use Rattle.elab_expr.specs.Emits.{IsSound};
+ghost use Rattle.elab_emit.specs.Emits.{IsSound};
 
 use crate::body::{Body, full_value};
 use crate::open::{Open, lead};
 use c_typed::TypedFullExpr;
 use core_ir::Instr;
-use elab_expr::{Trouble, put};
+use elab_emit::{Trouble, put};
 use elab_rows::Scope;
 
 /// A condition: the register of its value, and the place of its branch.

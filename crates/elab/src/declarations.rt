@@ -7,7 +7,7 @@ ghost use Rattle.elab_pieces.specs.Lines.{all_full};
 ghost use Rattle.elab_pieces.specs.Statements as spec;
 ghost use Rattle.elab.specs.inner.Bodies.{DoneOutcome, PieceOutcome, made_at, piece_at};
 ghost use Rattle.elab_rows.specs.Addresses.{slot_assigned};
-ghost use Rattle.elab_expr.specs.Emits.{IsSound};
+ghost use Rattle.elab_emit.specs.Emits.{IsSound};
 ghost use Rattle.elab_rows.specs.Scope.{standing_of};
 ghost use Rattle.elab_rows.specs.Values.{converted_code};
 
@@ -17,7 +17,7 @@ use crate::targets::{Base, Target};
 use c_typed::{Entity, TypedDecl, TypedExpr, TypedInit, TypedInitDeclarator};
 use c_types::{Ty, copy_type};
 use core_ir::Instr;
-use elab_expr::{Trouble, put};
+use elab_emit::{Trouble, put};
 use elab_rows::{Scope, Standing};
 
 /// The initialisers of a declaration.

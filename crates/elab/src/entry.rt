@@ -7,7 +7,7 @@ ghost use Rattle.elab_pieces.specs.Globals as globals;
 ghost use Rattle.elab.specs.inner.Bodies.{PieceOutcome, PutAll, piece_at};
 ghost use Rattle.elab.specs.inner.Leaves.{RunOutcome};
 ghost use Rattle.elab.specs.inner.Programs.{FunctionOutcome};
-ghost use Rattle.elab_expr.specs.Emits.{IsSound};
+ghost use Rattle.elab_emit.specs.Emits.{IsSound};
 ghost use Rattle.elab_rows.specs.Scope.{function_number};
 
 use crate::body::Body;
@@ -21,7 +21,7 @@ use crate::texts::text;
 use c_typed::{Entity, Typed, TypedInit, TypedInitDeclarator, TypedItem};
 use c_types::{FnTy, Ty, copy_type};
 use core_ir::Instr;
-use elab_expr::{Trouble, put};
+use elab_emit::{Trouble, put};
 use elab_rows::Scope;
 use sqlite_items::Items;
 use std::alloc::Global;

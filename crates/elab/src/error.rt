@@ -1,6 +1,6 @@
 //! Why a source has no program.
 
-use elab_expr::Trouble;
+use elab_emit::Trouble;
 use elab_pieces::LimitName;
 use std::alloc::AllocError;
 use thiserror::Error;

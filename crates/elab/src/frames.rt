@@ -9,7 +9,7 @@ ghost use Rattle.elab_rows.specs.Scope as spec;
 use c_typed::Local as Variable;
 use c_types::{copy_type, is_scalar};
 use core_ir::{Local, LocalList};
-use elab_expr::units;
+use elab_emit::units;
 use elab_rows::{Scope, Standing};
 use sqlite_items::Items;
 use std::alloc::{AllocError, Global};

@@ -9,7 +9,7 @@ ghost use Rattle.core_ir.specs.declared.program.Function.{Function as CoreFuncti
 ghost use Rattle.elab_pieces.specs.Lines.{full};
 ghost use Rattle.elab_pieces.specs.Statements.{block_code};
 ghost use Rattle.elab.specs.inner.Programs.{BodyOutcome, FunctionOutcome, IsFunction, bare, frame_stands, inside, is_laid_out};
-ghost use Rattle.elab_expr.specs.Emits.{IsSound};
+ghost use Rattle.elab_emit.specs.Emits.{IsSound};
 
 use crate::body::{Body, leave};
 use crate::frames::{Frame, frame_of, local_standings};
@@ -18,7 +18,7 @@ use crate::targets::{Base, Target, store_part};
 use c_typed::TypedFn;
 use c_types::{FnTy, Ty, copy_type, function_of};
 use core_ir::{Function, Instr};
-use elab_expr::{Trouble, copy_function, put, slot};
+use elab_emit::{Trouble, copy_function, put, slot};
 use elab_rows::{Scope, Standing};
 use sqlite_items::Items;
 use std::alloc::{AllocError, Global};

@@ -10,7 +10,7 @@ use crate::limits::limit;
 use c_typed::{Entity, Typed, TypedInitDeclarator, TypedItem};
 use c_types::{Ty, copy_type};
 use core_ir::{GlobalList, GlobalVar};
-use elab_expr::units;
+use elab_emit::units;
 use elab_pieces::LimitName;
 use elab_rows::Scope;
 use shared::Shared;

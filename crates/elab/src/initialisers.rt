@@ -7,7 +7,7 @@ ghost use Rattle.elab_pieces.specs.Lines.{all_full};
 ghost use Rattle.elab.specs.inner.Bodies.{PieceOutcome, piece_at};
 ghost use Rattle.elab.specs.inner.Leaves.{element_leaves, initialised_by, leaf_lines, member_leaves};
 ghost use Rattle.c_types.specs.Structs.{members_of as members_spec};
-ghost use Rattle.elab_expr.specs.Emits.{IsSound};
+ghost use Rattle.elab_emit.specs.Emits.{IsSound};
 
 use crate::body::Body;
 use crate::leaves::given;
@@ -17,7 +17,7 @@ use crate::targets::Target;
 use crate::texts::text;
 use c_typed::TypedInit;
 use c_types::{Member, Ty};
-use elab_expr::{Trouble, units};
+use elab_emit::{Trouble, units};
 use elab_rows::Scope;
 
 /// The code of a variable's initialiser.

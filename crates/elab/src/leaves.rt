@@ -6,7 +6,7 @@ ghost use Rattle.elab.specs.inner.Bodies.{DoneOutcome, made_at};
 ghost use Rattle.elab.specs.inner.Leaves.{lvalue_of};
 ghost use Rattle.c_types.specs.declared.ty.Ty.TheVariants as ty_is;
 ghost use Rattle.elab_rows.specs.Addresses.{assigned, struct_assigned};
-ghost use Rattle.elab_expr.specs.Emits.{IsSound, Outcome, code_of};
+ghost use Rattle.elab_emit.specs.Emits.{IsSound, Outcome, code_of};
 ghost use Rattle.elab_rows.specs.Made.{converted as converts};
 ghost use Rattle.elab_rows.specs.Rows.{number as number_code};
 ghost use Rattle.elab_rows.specs.Units.{scalars};
@@ -16,7 +16,8 @@ use crate::body::Body;
 use crate::targets::{Target, part_address, store_part, zero};
 use c_typed::TypedExpr;
 use c_types::{Ty, is_struct};
-use elab_expr::{Emitter, Trouble, address, converted, copy_struct, number, root};
+use elab_emit::{Emitter, Trouble, copy_struct, number};
+use elab_expr::{address, converted, root};
 use elab_rows::Scope;
 
 /// A part that an expression gives; without an offset the whole variable.

@@ -5,7 +5,7 @@ ghost use Rattle.elab_pieces.specs.Initialisers.{all_scalars};
 ghost use Rattle.elab.specs.inner.Bodies.{PieceOutcome, piece_at};
 ghost use Rattle.elab_pieces.specs.Lines.{all_full};
 ghost use Rattle.elab.specs.inner.Leaves.{missing_codes, missing_lines};
-ghost use Rattle.elab_expr.specs.Emits.{IsSound};
+ghost use Rattle.elab_emit.specs.Emits.{IsSound};
 ghost use Rattle.elab_rows.specs.Units.{repeated};
 
 use crate::body::Body;
@@ -13,7 +13,7 @@ use crate::leaves::missing_leaf;
 use crate::offsets::next_offset;
 use crate::targets::Target;
 use c_types::{Member, StructTable, Ty, TyList};
-use elab_expr::{Trouble, list_scalars};
+use elab_emit::{Trouble, list_scalars};
 use sqlite_items::Items;
 use std::alloc::{AllocError, Global};
 

@@ -4,11 +4,11 @@ ghost use Rattle.std.specs.Prelude.{◌≡◌, length};
 ghost use Rattle.elab_pieces.specs.Lines.{one_line};
 ghost use Rattle.elab.specs.inner.Bodies.{piece_at};
 ghost use Rattle.elab.specs.inner.Jumps.{AreWithin, StatementOutcome, closed, jump_line};
-ghost use Rattle.elab_expr.specs.Emits.{IsSound};
+ghost use Rattle.elab_emit.specs.Emits.{IsSound};
 
 use crate::body::Body;
 use core_ir::{Instr, InstrList};
-use elab_expr::{Trouble, put};
+use elab_emit::{Trouble, put};
 use sqlite_items::Items;
 
 /// A jump of `break` or `continue` that isn't written yet.

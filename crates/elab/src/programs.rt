@@ -23,7 +23,7 @@ use crate::limits::{MOST_FUNCTIONS, Passed, limit};
 use c_typed::{Typed, TypedDeclarator, TypedDirect, TypedFn, TypedItem};
 use c_types::{Name, Ty, copy_name, copy_table};
 use core_ir::{FunctionList, Program};
-use elab_expr::Trouble;
+use elab_emit::Trouble;
 use elab_pieces::LimitName;
 use elab_rows::Scope;
 use elab_source_laws::{accepted_programs_are_typed, accepted_programs_are_valid};

@@ -4,13 +4,13 @@ ghost use Rattle.std.specs.Prelude.{◌≡◌};
 ghost use Rattle.std.specs.Option.{option_copied};
 ghost use Rattle.elab_pieces.specs.Statements as spec;
 ghost use Rattle.elab.specs.inner.Bodies.{DoneOutcome, PieceOutcome, made_at, piece_at};
-ghost use Rattle.elab_expr.specs.Emits.{IsSound};
+ghost use Rattle.elab_emit.specs.Emits.{IsSound};
 ghost use Rattle.elab_rows.specs.Values.{converted_code};
 
 use crate::body::{Body, full_converted, full_value, leave};
 use crate::declarations::declaration;
 use c_typed::{TypedExpr, TypedForInit, TypedFullExpr};
-use elab_expr::Trouble;
+use elab_emit::Trouble;
 use elab_rows::Scope;
 
 /// A full expression whose value nobody asks for, if there is one.

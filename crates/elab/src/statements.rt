@@ -7,7 +7,7 @@ ghost use Rattle.elab_pieces.specs.Statements as spec;
 ghost use Rattle.elab_pieces.specs.Statements.{block_code, block_item_code, for_loop_code, stmt_code, value_of};
 ghost use Rattle.elab.specs.inner.Bodies.{PieceOutcome, piece_at};
 ghost use Rattle.elab.specs.inner.Jumps.{StatementOutcome};
-ghost use Rattle.elab_expr.specs.Emits.{IsSound};
+ghost use Rattle.elab_emit.specs.Emits.{IsSound};
 
 use crate::body::{Body, full_value};
 use crate::conditions::{
@@ -17,7 +17,7 @@ use crate::declarations::declaration;
 use crate::open::{Open, jump};
 use crate::simple::{expression, first_part, return_value};
 use c_typed::{TypedBlock, TypedBlockItem, TypedForLoop, TypedFullExpr, TypedStmt};
-use elab_expr::Trouble;
+use elab_emit::Trouble;
 use elab_rows::Scope;
 use sqlite_items::Items;
 

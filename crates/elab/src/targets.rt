@@ -4,12 +4,12 @@ ghost use Rattle.std.specs.Prelude.{◌≡◌, pos};
 ghost use Rattle.c_types.specs.declared.ty.Ty.TheVariants as ty;
 ghost use Rattle.elab.specs.inner.Leaves.{lvalue_of, place_code};
 ghost use Rattle.elab_rows.specs.Addresses.{assigned};
-ghost use Rattle.elab_expr.specs.Emits.{IsSound, Outcome, code_of};
+ghost use Rattle.elab_emit.specs.Emits.{IsSound, Outcome, code_of};
 ghost use Rattle.elab_rows.specs.Made.{converted, held};
 ghost use Rattle.elab_rows.specs.Rows as rows;
 
 use c_types::{Ty, copy_type};
-use elab_expr::{Emitter, Trouble, convert, frame_local, global, member_at, number, store};
+use elab_emit::{Emitter, Trouble, convert, frame_local, global, member_at, number, store};
 
 /// What a variable's address is taken of.
 #[derive(Clone, Copy, Debug, PartialEq, Eq)]

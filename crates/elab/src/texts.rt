@@ -3,7 +3,7 @@
 ghost use Rattle.std.specs.Prelude.{◌≡◌, [], ◌∷◌, ◌++◌};
 ghost use Rattle.elab.specs.inner.Bodies.{PieceOutcome, piece_at};
 ghost use Rattle.elab.specs.inner.Leaves.{text_lines};
-ghost use Rattle.elab_expr.specs.Emits.{IsSound};
+ghost use Rattle.elab_emit.specs.Emits.{IsSound};
 ghost use Rattle.elab_rows.specs.Units.{scalars};
 
 use crate::body::Body;
@@ -12,7 +12,7 @@ use crate::missing::missing_scalars;
 use crate::offsets::next_offset;
 use crate::targets::Target;
 use c_types::Ty;
-use elab_expr::{Trouble, list_scalars};
+use elab_emit::{Trouble, list_scalars};
 use elab_rows::Scope;
 use sqlite_items::Items;
 

@@ -6,11 +6,11 @@ use Rattle.c_typed.specs.declared.expression.TypedExpr.{TypedExpr}
 use Rattle.elab_rows.specs.Values.{Part, converted_part, converted_parts, part}
 use Rattle.elab_rows.specs.declared.scope.Scope.{Scope}
 use Rattle.elab_rows.specs.Calls.{Listed, arguments}
-use Rattle.elab_expr.specs.Emits.{IsSound, Outcome, Stops, code_of}
+use Rattle.elab_emit.specs.Emits.{IsSound, Outcome, Stops, code_of}
 use Rattle.elab_rows.specs.Made.{Code, behind}
-use Rattle.elab_expr.specs.declared.emitter.Emitter.{Emitter}
-use Rattle.elab_expr.specs.declared.emitter.Trouble.{Trouble}
-use Rattle.elab_expr.specs.declared.emitter.Trouble.TheVariants.{TooLong, Memory}
+use Rattle.elab_emit.specs.declared.emitter.Emitter.{Emitter}
+use Rattle.elab_emit.specs.declared.emitter.Trouble.{Trouble}
+use Rattle.elab_emit.specs.declared.emitter.Trouble.TheVariants.{TooLong, Memory}
 use Rattle.elab_expr.specs.inner.Lists.{ArgumentsOutcome, Reaches, list_of}
 
 pub reaches_start : (start : Emitter) (parts : List Code) → IsSound start → Reaches start (list_of start parts) [] start (list_of start parts)

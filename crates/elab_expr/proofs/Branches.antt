@@ -3,12 +3,12 @@ use Rattle.std.proofs.Common.{◌≡◌, ◌∙◌, ℕ, ◌+◌, ◌≤◌, Lis
 use Rattle.core_ir.specs.declared.instr.Instr.{Instr}
 use Rattle.core_ir.specs.declared.instr.Instr.TheVariants.{Branch, Jump, SetLocal}
 use Rattle.elab_rows.specs.Choices.{and_code, and_made, conditional_code, conditional_made, or_code, or_made, second_arm}
-use Rattle.elab_expr.specs.Emits.{Adds, Outcome, Stops, code_of}
+use Rattle.elab_emit.specs.Emits.{Adds, Outcome, Stops, code_of}
 use Rattle.elab_rows.specs.Made.{Code, Made, beyond}
-use Rattle.elab_expr.specs.declared.emitter.Emitter.{Emitter}
-use Rattle.elab_expr.specs.declared.emitter.Trouble.{Trouble}
-use Rattle.elab_expr.specs.declared.emitter.Trouble.TheVariants.{TooLong, Memory}
-use Rattle.elab_expr.specs.inner.Holes.{AndOutcome, ArmsOutcome, KeptOutcome, OrOutcome, TestedOutcome, opened}
+use Rattle.elab_emit.specs.declared.emitter.Emitter.{Emitter}
+use Rattle.elab_emit.specs.declared.emitter.Trouble.{Trouble}
+use Rattle.elab_emit.specs.declared.emitter.Trouble.TheVariants.{TooLong, Memory}
+use Rattle.elab_emit.specs.Holes.{AndOutcome, ArmsOutcome, KeptOutcome, OrOutcome, TestedOutcome, opened}
 use Rattle.elab_expr.proofs.Patch.{and_outcome, arms_outcome, or_outcome}
 
 pub stops_longer : (old : Emitter) (c d : List Instr) (e : Trouble) → length c ≤ length d → Stops old c e → Stops old d e

@@ -8,15 +8,16 @@ use Rattle.core_ir.specs.declared.instr.Instr.{Instr}
 use Rattle.core_ir.specs.declared.instr.Instr.TheVariants.{Call, CallInd, GetLocal, SetLocal}
 use Rattle.elab_rows.specs.Addresses.{Lvalue, copied_made, copied_parts, struct_assigned}
 use Rattle.elab_rows.specs.Calls.{Listed, arguments, built_in_made, called, has_place, indirect_made, kept, placed, with_callee}
-use Rattle.elab_expr.specs.Emits.{Outcome, Stops, code_of}
+use Rattle.elab_emit.specs.Emits.{Outcome, Stops, code_of}
 use Rattle.elab_rows.specs.Made.{Code, Made, behind, held}
 use Rattle.elab_rows.specs.Values.{Part, call_by, call_part, called_type, converted_parts, returns}
-use Rattle.elab_expr.specs.declared.emitter.Emitter.{Emitter}
-use Rattle.elab_expr.specs.declared.emitter.Trouble.{Trouble}
+use Rattle.elab_emit.specs.declared.emitter.Emitter.{Emitter}
+use Rattle.elab_emit.specs.declared.emitter.Trouble.{Trouble}
 use Rattle.elab_rows.specs.declared.named.Named.{Named}
 use Rattle.elab_rows.specs.declared.named.Named.TheVariants as named
 use Rattle.elab_expr.specs.inner.Behind.{prefixed}
-use Rattle.elab_expr.specs.inner.Lists.{ArgumentsOutcome, call_end, end_by, list_of, listed}
+use Rattle.elab_emit.specs.Held.{listed}
+use Rattle.elab_expr.specs.inner.Lists.{ArgumentsOutcome, call_end, end_by, list_of}
 use Rattle.elab_expr.proofs.Operands.{stops_behind, stops_front, then_made}
 
 -- ---- behind several values

@@ -5,10 +5,6 @@ pub mod Patch
 pub mod Updates
 pub mod ArgumentLists
 pub mod Branches
-pub mod Elements
-pub mod SeenPlaces
 pub mod CallRows
 pub mod NamedRows
 pub mod PlacedRows
-pub mod Scalars
-pub mod CopyRows

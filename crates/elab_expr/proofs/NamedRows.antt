@@ -12,10 +12,10 @@ use Rattle.elab_rows.specs.Values.{Part, assigned_by, old_value, one, operand, p
 use Rattle.elab_rows.specs.declared.named.Named.{Named}
 use Rattle.elab_rows.specs.declared.named.Named.TheVariants as named
 use Rattle.elab_rows.specs.declared.scope.Scope.{Scope}
-use Rattle.elab_expr.specs.Emits.{Outcome, Stops, code_of}
-use Rattle.elab_expr.specs.declared.emitter.Emitter.{Emitter}
-use Rattle.elab_expr.specs.declared.emitter.Trouble.{Trouble}
-use Rattle.elab_expr.specs.declared.finish.Updated.{Updated}
+use Rattle.elab_emit.specs.Emits.{Outcome, Stops, code_of}
+use Rattle.elab_emit.specs.declared.emitter.Emitter.{Emitter}
+use Rattle.elab_emit.specs.declared.emitter.Trouble.{Trouble}
+use Rattle.elab_expr.specs.declared.assignments.Updated.{Updated}
 use Rattle.elab_expr.specs.inner.Lists.{UpdateOutcome, end_by}
 use Rattle.elab_expr.proofs.Nodes.{one_is, one_tree}
 

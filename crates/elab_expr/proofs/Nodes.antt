@@ -15,9 +15,9 @@ use Rattle.c_operators.specs.Operators.{constant_of, is_null, type_of, typed, va
 use Rattle.elab_rows.specs.Rows.{number, target_units}
 use Rattle.elab_rows.specs.Addresses.{lvalue_value}
 use Rattle.elab_rows.specs.Values.{Part, PartForm, form_lvalue, form_name, form_value, folded, made_of, name_address, name_value, one, operand, part, target, unary_lvalue, value_type as part_type, whole}
-use Rattle.elab_expr.specs.Emits.{Outcome, code_of}
-use Rattle.elab_expr.specs.declared.emitter.Emitter.{Emitter}
-use Rattle.elab_expr.specs.declared.emitter.Trouble.{Trouble}
+use Rattle.elab_emit.specs.Emits.{Outcome, code_of}
+use Rattle.elab_emit.specs.declared.emitter.Emitter.{Emitter}
+use Rattle.elab_emit.specs.declared.emitter.Trouble.{Trouble}
 use Rattle.elab_rows.specs.declared.scope.Scope.{Scope}
 use Rattle.elab_rows.specs.declared.named.Named.{Named}
 use Rattle.elab_rows.specs.declared.named.Named.TheVariants as named

@@ -10,15 +10,16 @@ use Rattle.core_ir.specs.declared.instr.Instr.TheVariants.{Binary, Cast, Const, 
 use Rattle.core_ir.specs.declared.operator.Operator.TheVariants as operator
 use Rattle.core_ir.specs.Typed.{element_of}
 use Rattle.elab_rows.specs.Addresses.{Lvalue, loaded, pointing, value_at}
-use Rattle.elab_expr.specs.Emits.{Adds, Outcome, Stops, code_of}
+use Rattle.elab_emit.specs.Emits.{Adds, Outcome, Stops, code_of}
 use Rattle.elab_rows.specs.Made.{Code, Made, behind, combined, combined_made, converted, extended, extended_made, followed, held}
 use Rattle.elab_rows.specs.Rows.{last_code}
-use Rattle.elab_expr.specs.declared.emitter.Emitter.{Emitter}
-use Rattle.elab_expr.specs.declared.emitter.Trouble.{Trouble}
-use Rattle.elab_expr.specs.declared.emitter.Trouble.TheVariants.{TooLong, Memory}
+use Rattle.elab_emit.specs.declared.emitter.Emitter.{Emitter}
+use Rattle.elab_emit.specs.declared.emitter.Trouble.{Trouble}
+use Rattle.elab_emit.specs.declared.emitter.Trouble.TheVariants.{TooLong, Memory}
 use Rattle.elab_rows.specs.declared.operation.Last.{Last}
 use Rattle.elab_rows.specs.declared.operation.Last.TheVariants as last
-use Rattle.elab_expr.specs.inner.Behind.{BeginsWith, from_root, prefixed}
+use Rattle.elab_emit.specs.Held.{from_root}
+use Rattle.elab_expr.specs.inner.Behind.{BeginsWith, prefixed}
 
 -- ---- rows that begin with an operand
 

@@ -4,13 +4,13 @@ use Rattle.std.specs.Prelude.{slice_set}
 use Rattle.std.proofs.Math.Seq.{set-append_seam}
 use Rattle.core_ir.specs.declared.instr.Instr.{Instr}
 use Rattle.core_ir.specs.declared.instr.Instr.TheVariants.{Branch, GetLocal, Jump, SetLocal}
-use Rattle.elab_expr.specs.declared.emitter.Emitter.{Emitter}
-use Rattle.elab_expr.specs.declared.emitter.Trouble.{Trouble}
-use Rattle.elab_expr.specs.declared.emitter.Trouble.TheVariants.{TooLong, Memory}
+use Rattle.elab_emit.specs.declared.emitter.Emitter.{Emitter}
+use Rattle.elab_emit.specs.declared.emitter.Trouble.{Trouble}
+use Rattle.elab_emit.specs.declared.emitter.Trouble.TheVariants.{TooLong, Memory}
 use Rattle.elab_rows.specs.Choices.{and_made, conditional_made, or_made, truth_lines}
-use Rattle.elab_expr.specs.Emits.{Adds, Outcome}
+use Rattle.elab_emit.specs.Emits.{Adds, Outcome}
 use Rattle.elab_rows.specs.Made.{Made}
-use Rattle.elab_expr.specs.inner.Holes.{AndOutcome, ArmsOutcome, KeptOutcome, OrOutcome, TestedOutcome, and_end, arms_end, opened}
+use Rattle.elab_emit.specs.Holes.{AndOutcome, ArmsOutcome, KeptOutcome, OrOutcome, TestedOutcome, and_end, arms_end, opened}
 
 -- one write into the middle
 pub seam : (base c y rest : List Instr) (i j : Instr)

@@ -2,10 +2,10 @@
 use Rattle.std.proofs.Common.{◌≡◌, ◌∙◌, ℕ, true, false, List, length, drop, ap, sym, Result, Ok}
 use Rattle.core_ir.specs.declared.instr.Instr.{Instr}
 use Rattle.elab_rows.specs.Calls.{has_place, kept, placed}
-use Rattle.elab_expr.specs.Emits.{Outcome, code_of}
+use Rattle.elab_emit.specs.Emits.{Outcome, code_of}
 use Rattle.elab_rows.specs.Made.{Made, held}
-use Rattle.elab_expr.specs.declared.emitter.Emitter.{Emitter}
-use Rattle.elab_expr.specs.declared.emitter.Trouble.{Trouble}
+use Rattle.elab_emit.specs.declared.emitter.Emitter.{Emitter}
+use Rattle.elab_emit.specs.declared.emitter.Trouble.{Trouble}
 use Rattle.elab_expr.proofs.CallRows.{kept_row, placed_row}
 
 module _ (x : Made) (old mid : Emitter) (c from : ℕ) (rest : List Instr) (begins : from ≡ length old.code) (is : rest ≡ drop from mid.code) where

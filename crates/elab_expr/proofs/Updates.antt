@@ -3,14 +3,14 @@ use Rattle.std.proofs.Common.{◌≡◌, ℕ, [], ◌∷◌, subst, Result, Ok, 
 use Rattle.c_types.specs.declared.ty.Ty.{Ty}
 use Rattle.core_ir.specs.declared.instr.Instr.TheVariants.{SetLocal, Store, Touch}
 use Rattle.elab_rows.specs.Addresses.{Lvalue, loaded, restored_made, slot_assigned, slot_updated, updated}
-use Rattle.elab_expr.specs.Emits.{Outcome, Stops, code_of}
+use Rattle.elab_emit.specs.Emits.{Outcome, Stops, code_of}
 use Rattle.elab_rows.specs.Made.{Code, Made, held}
 use Rattle.c_tree.specs.declared.operator.BinaryOperator.{BinaryOperator}
 use Rattle.elab_rows.specs.Rows.{Operand, slot_value}
 use Rattle.elab_rows.specs.Values.{Part, new_value}
 use Rattle.elab_rows.specs.declared.scope.Scope.{Scope}
-use Rattle.elab_expr.specs.declared.emitter.Emitter.{Emitter}
-use Rattle.elab_expr.specs.declared.emitter.Trouble.{Trouble}
+use Rattle.elab_emit.specs.declared.emitter.Emitter.{Emitter}
+use Rattle.elab_emit.specs.declared.emitter.Trouble.{Trouble}
 use Rattle.elab_expr.specs.inner.Behind.{BeginsWith}
 use Rattle.elab_expr.specs.inner.Lists.{UpdateOutcome}
 use Rattle.elab_expr.proofs.Operands.{behind_value, followed_over, loaded_over, stops_front, stops_value, then_made}

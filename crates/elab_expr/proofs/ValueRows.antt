@@ -7,18 +7,19 @@ use Rattle.c_tree.specs.declared.operator.BinaryOperator.TheVariants as binary
 use Rattle.core_ir.specs.declared.instr.Instr.TheVariants.{PtrConst, SetLocal, Store, Touch, Unary}
 use Rattle.core_ir.specs.declared.operator.Operator.{Operator}
 use Rattle.elab_rows.specs.Addresses.{Lvalue, address_of, assigned, lvalue_value, member_address, pointing, restored_made, stored_made}
-use Rattle.elab_expr.specs.Emits.{Outcome, Stops, code_of}
+use Rattle.elab_emit.specs.Emits.{Outcome, Stops, code_of}
 use Rattle.elab_rows.specs.Made.{Code, Made, behind, converted, held}
 use Rattle.elab_rows.specs.Rows.{Operand, converted_to, last_code, operand_type, operated, operated_type, operation_code, operation_of, pointer_plus, unary_code}
 use Rattle.elab_rows.specs.Values.{Part, assigned_by, converted_part, new_value, old_operand, operand}
-use Rattle.elab_expr.specs.declared.emitter.Emitter.{Emitter}
-use Rattle.elab_expr.specs.declared.emitter.Trouble.{Trouble}
+use Rattle.elab_emit.specs.declared.emitter.Emitter.{Emitter}
+use Rattle.elab_emit.specs.declared.emitter.Trouble.{Trouble}
 use Rattle.elab_rows.specs.declared.named.Named.{Named}
 use Rattle.elab_rows.specs.declared.named.Named.TheVariants as named
 use Rattle.elab_rows.specs.declared.operation.Last.TheVariants as last
 use Rattle.elab_rows.specs.declared.operation.Operation.{Operation}
 use Rattle.elab_rows.specs.declared.scope.Scope.{Scope}
-use Rattle.elab_expr.specs.inner.Behind.{BeginsWith, from_root, over, prefixed}
+use Rattle.elab_emit.specs.Held.{from_root}
+use Rattle.elab_expr.specs.inner.Behind.{BeginsWith, over, prefixed}
 use Rattle.elab_expr.proofs.Operands.{behind_value, converted_over, extended_over, followed_over, last_first, last_second, pointing_over, stops_front, stops_value, then_made, value_over}
 
 -- ---- one row over another

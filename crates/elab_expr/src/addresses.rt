@@ -4,7 +4,7 @@ ghost use Rattle.std.specs.Prelude.{◌≡◌};
 ghost use Rattle.c_typed.specs.declared.expression.TypedExpr.{out-TypedExpr};
 ghost use Rattle.c_types.specs.declared.ty.Ty.TheVariants.{Int};
 ghost use Rattle.elab_rows.specs.Addresses as lvalues;
-ghost use Rattle.elab_expr.specs.Emits.{IsSound, Outcome, code_of};
+ghost use Rattle.elab_emit.specs.Emits.{IsSound, Outcome, code_of};
 ghost use Rattle.elab_rows.specs.Rows as rows;
 ghost use Rattle.elab_rows.specs.Units.{units as unit_count};
 ghost use Rattle.elab_rows.specs.Values as spec;
@@ -12,16 +12,14 @@ ghost use Rattle.elab_rows.specs.Values.{part};
 ghost use Rattle.elab_expr.specs.inner.Nests.{Nests};
 ghost use Rattle.elab_expr.specs.inner.Nodes.{node};
 
-use crate::emitter::{Emitter, Trouble};
 use crate::named::entity_name;
-use crate::parts::{arrow_offset, dot_offset, has_function_type, pointer_to, whole_value};
+use crate::parts::{arrow_offset, dot_offset, has_function_type, pointer_to};
 use crate::pass::Pass;
-use crate::rows::{add_units, member_at, name_address, unary};
-use crate::sizes::units;
 use c_tree::UnaryOperator;
 use c_typed::{TypedExpr, TypedForm};
 use c_types::{Ty, is_function};
 use core_ir::Operator;
+use elab_emit::{Emitter, Trouble, add_units, member_at, name_address, unary, units, whole_value};
 use elab_rows::Scope;
 
 impl<'s, V, A> Pass<'s, V, A>

@@ -3,7 +3,7 @@
 ghost use Rattle.std.specs.Prelude.{◌≡◌};
 ghost use Rattle.c_tree.specs.Operators.{binary_operator};
 ghost use Rattle.elab_rows.specs.Addresses as lvalues;
-ghost use Rattle.elab_expr.specs.Emits.{IsSound, Outcome, code_of};
+ghost use Rattle.elab_emit.specs.Emits.{IsSound, Outcome, code_of};
 ghost use Rattle.elab_rows.specs.Made.{held};
 ghost use Rattle.elab_rows.specs.Rows as rows;
 ghost use Rattle.elab_rows.specs.Units.{scalars};
@@ -12,17 +12,21 @@ ghost use Rattle.elab_rows.specs.Values.{operand, part};
 ghost use Rattle.elab_expr.specs.inner.Lists.{UpdateOutcome};
 ghost use Rattle.elab_expr.specs.inner.Nests.{Nests};
 
-use crate::copies::copy_lvalue;
-use crate::emitter::{Emitter, Trouble};
-use crate::finish::Updated;
 use crate::named::name;
-use crate::parts::{convert_back, has_struct_type, load_lvalue, store_lvalue};
+use crate::parts::{convert_back, copy_lvalue, has_struct_type, load_lvalue, store_lvalue};
 use crate::pass::Pass;
-use crate::rows::{set_slot, slot};
 use crate::types::one;
 use c_tree::{AssignOperator, BinaryOperator};
 use c_typed::TypedExpr;
+use elab_emit::{Emitter, Trouble, set_slot, slot};
 use elab_rows::{Named, Scope};
+
+/// A value and what it becomes.
+#[derive(Clone, Copy, Debug, PartialEq, Eq)]
+pub(crate) struct Updated {
+    pub(crate) old: u32,
+    pub(crate) new: u32,
+}
 
 impl<'s, V, A> Pass<'s, V, A>
 where

@@ -2,21 +2,20 @@
 
 ghost use Rattle.std.specs.Prelude.{◌≡◌, map};
 ghost use Rattle.elab_rows.specs.Calls as call_rows;
-ghost use Rattle.elab_expr.specs.Emits.{IsSound, Outcome, code_of};
+ghost use Rattle.elab_emit.specs.Emits.{IsSound, Outcome, code_of};
 ghost use Rattle.elab_rows.specs.Values as spec;
 ghost use Rattle.elab_rows.specs.Values.{part};
-ghost use Rattle.elab_expr.specs.inner.Lists.{ArgumentsOutcome, call_end, list_of, listed};
+ghost use Rattle.elab_emit.specs.Held.{listed};
+ghost use Rattle.elab_expr.specs.inner.Lists.{ArgumentsOutcome, call_end, list_of};
 ghost use Rattle.elab_expr.specs.inner.Nests.{Nests};
 
-use crate::emitter::{Emitter, Trouble};
-use crate::finish::{finish_built_in, finish_call, finish_indirect, keep};
 use crate::named::name;
 use crate::parts::callee_type;
 use crate::pass::Pass;
-use crate::places::has_place;
 use c_typed::TypedExpr;
 use c_types::{FnTy, Ty, is_void};
 use core_ir::Arguments;
+use elab_emit::{Emitter, Trouble, finish_built_in, finish_call, finish_indirect, has_place, keep};
 use elab_rows::{Named, Scope};
 use sqlite_items::Items;
 

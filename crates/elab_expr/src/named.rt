@@ -61,7 +61,7 @@ fn form_name(scope: &Scope, expr: &TypedExpr) -> Named
 
 /// What an expression stands for, where it is a name alone.
 #[tactic(auto, using(crate::proofs::Nodes::name_is))]
-pub fn name(scope: &Scope, expr: &TypedExpr) -> Named
+pub(crate) fn name(scope: &Scope, expr: &TypedExpr) -> Named
     ensures { result ≡ (spec.part scope.now expr.now).name }
 {
     form_name(scope, expr)

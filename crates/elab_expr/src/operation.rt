@@ -3,19 +3,15 @@
 ghost use Rattle.std.specs.Prelude.{◌≡◌, IfOk};
 ghost use Rattle.c_types.specs.declared.ty.Ty.TheVariants as ty;
 ghost use Rattle.c_types.specs.Kinds.{is_pointer};
-ghost use Rattle.elab_expr.specs.Emits.{IsSound, Outcome, code_of};
-ghost use Rattle.elab_rows.specs.Made.{held};
 ghost use Rattle.elab_rows.specs.Rows as spec;
 ghost use Rattle.elab_rows.specs.Values.{operand, part};
 
-use crate::emitter::{Emitter, Trouble};
-use crate::rows::{add_units, binary, difference_of, operator_of, subtract_units};
-use crate::sizes::{becomes_pointer, target_units};
 use crate::types::operand_type;
 use c_operators::value_type;
 use c_tree::BinaryOperator;
 use c_typed::TypedExpr;
 use c_types::{Ty, copy_type};
+use elab_emit::{becomes_pointer, operator_of, target_units};
 use elab_rows::{Last, Operation, Scope};
 use std::alloc::{AllocError, Global};
 
@@ -170,20 +166,5 @@ pub(crate) fn operation_of(
         BinaryOperator::Add => sum(alloc, scope, x, y),
         BinaryOperator::Subtract => difference(alloc, scope, x, y),
         _ => plain(alloc, scope, operator, x, y),
-    }
-}
-
-/// What stands behind the operands.
-pub(crate) fn finish(out: &mut Emitter, last: Last, a: u32, b: u32) -> Result<u32, Trouble>
-    requires { IsSound out.old }
-    ensures made { Outcome out.old (code_of out.old (spec.last_code last (held a) (held b))) result out.new }
-    ensures sound { IsSound out.new }
-{
-    match last {
-        Last::Binary(operator) => binary(out, operator, a, b),
-        Last::PointerPlus(n) => add_units(out, a, b, n),
-        Last::PlusPointer(n) => add_units(out, b, a, n),
-        Last::PointerMinus(n) => subtract_units(out, a, b, n),
-        Last::PointerDifference(n) => difference_of(out, n, a, b),
     }
 }

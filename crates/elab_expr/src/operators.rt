@@ -2,22 +2,24 @@
 
 ghost use Rattle.std.specs.Prelude.{◌≡◌};
 ghost use Rattle.elab_rows.specs.Choices as choices;
-ghost use Rattle.elab_expr.specs.Emits.{IsSound, Outcome, code_of};
+ghost use Rattle.elab_emit.specs.Emits.{IsSound, Outcome, code_of};
 ghost use Rattle.elab_rows.specs.Made.{held};
 ghost use Rattle.elab_rows.specs.Rows as rows;
 ghost use Rattle.elab_rows.specs.Values as spec;
 ghost use Rattle.elab_rows.specs.Values.{operand, part};
 ghost use Rattle.elab_expr.specs.inner.Nests.{Nests};
 
-use crate::choices::{finish_and, finish_conditional, finish_or, kept, tested};
-use crate::emitter::{Emitter, Trouble, put};
-use crate::operation::{finish, operation_of};
+use crate::operation::operation_of;
 use crate::parts::convert_value;
 use crate::pass::Pass;
 use c_tree::BinaryOperator;
 use c_typed::TypedExpr;
 use c_types::Ty;
 use core_ir::Instr;
+use elab_emit::{
+    Emitter, Trouble, end_first_arm, finish_and, finish_conditional, finish_operation, finish_or,
+    open_or, put,
+};
 use elab_rows::{Operation, Scope};
 
 impl<'s, V, A> Pass<'s, V, A>
@@ -98,7 +100,7 @@ where
     {
         let a = convert_value(out, self.scope, x, a, &operation.first)?;
         let b = self.converted(out, y, &operation.second)?;
-        finish(out, operation.last, a, b)
+        finish_operation(out, operation.last, a, b)
     }
 
     /// `a && b`.
@@ -123,7 +125,7 @@ where
         ensures sound { IsSound out.new }
     {
         let x = self.value(out, a)?;
-        let hole = tested(out, x)?;
+        let hole = open_or(out, x)?;
         let y = self.value(out, b)?;
         finish_or(out, hole, y)
     }
@@ -147,7 +149,7 @@ where
         put(out, Instr::Branch { a: c, l: 0 })?;
         let x = self.converted(out, a, ty)?;
         let chosen = out.code.len();
-        let s = kept(out, x)?;
+        let s = end_first_arm(out, x)?;
         let y = self.converted(out, b, ty)?;
         finish_conditional(out, branch, chosen + 1, c, s, y)
     }

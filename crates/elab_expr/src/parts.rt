@@ -3,34 +3,25 @@
 ghost use Rattle.std.specs.Prelude.{◌≡◌, IfOk, pos};
 ghost use Rattle.c_types.specs.Kinds.{is_function as function_test, is_struct as struct_test};
 ghost use Rattle.elab_rows.specs.Addresses as lvalues;
-ghost use Rattle.elab_expr.specs.Emits.{IsSound, Outcome, code_of};
+ghost use Rattle.elab_emit.specs.Emits.{IsSound, Outcome, code_of};
 ghost use Rattle.elab_rows.specs.Made.{converted, held};
 ghost use Rattle.elab_rows.specs.Rows as rows;
-ghost use Rattle.elab_rows.specs.Units.{units as unit_count};
+ghost use Rattle.elab_rows.specs.Units.{scalars, units as unit_count};
 ghost use Rattle.elab_rows.specs.Values as spec;
 ghost use Rattle.elab_rows.specs.Values.{operand, part};
-ghost use Rattle.elab_expr.specs.inner.Behind.{from_root};
+ghost use Rattle.elab_emit.specs.Held.{from_root};
 
-use crate::emitter::{Emitter, Trouble};
-use crate::rows::{convert, load, number, point, store, value_at};
-use crate::sizes::{member_offset, units};
-use crate::types::{called_type, operated_type, pointed, root};
+use crate::types::{operated_type, pointed, root};
 use c_operators::value_type;
 use c_tree::BinaryOperator;
 use c_typed::TypedExpr;
-use c_types::{FnTy, Ty, copy_type, is_function, is_struct};
+use c_types::{FnTy, Ty, is_function, is_struct};
+use elab_emit::{
+    Emitter, Trouble, called_type, convert, copy_struct, load, member_offset, point, size, store,
+    value_at,
+};
 use elab_rows::Scope;
 use std::alloc::AllocError;
-
-/// A number of units.
-pub(crate) fn size(out: &mut Emitter, scope: &Scope, ty: &Ty) -> Result<u32, Trouble>
-    requires { IsSound out.old }
-    ensures made { Outcome out.old (code_of out.old (rows.number (pos (unit_count scope.now.structs ty.now)))) result out.new }
-    ensures sound { IsSound out.new }
-{
-    let n = units(scope, ty)?;
-    number(out, i64::from(n))
-}
 
 /// The units of an expression.
 #[tactic(auto, using(crate::proofs::Nodes::type_is))]
@@ -179,16 +170,6 @@ pub(crate) fn callee_type<'a>(_scope: &Scope, x: &'a TypedExpr) -> Result<&'a Fn
     called_type(&x.ty)
 }
 
-/// The value at an address, where the root is of this type too.
-pub(crate) fn whole_value(out: &mut Emitter, ty: &Ty, p: u32) -> Result<u32, Trouble>
-    requires { IsSound out.old }
-    ensures made { Outcome out.old (code_of out.old (lvalues.lvalue_value (from_root ty.now ty.now (held p)))) result out.new }
-    ensures sound { IsSound out.new }
-{
-    let root = copy_type(ty)?;
-    value_at(out, root, ty, p)
-}
-
 /// What an operator gives is converted back to the type of its first operand.
 #[tactic(auto, using(crate::proofs::Nodes::type_is))]
 pub(crate) fn convert_back(
@@ -207,4 +188,24 @@ pub(crate) fn convert_back(
     let alloc = out.alloc;
     let from = operated_type(alloc, scope, operator, x, y)?;
     convert(out, a, &from, &x.ty)
+}
+
+/// The struct of one lvalue, at `p`, is assigned to another, at `q`.
+#[tactic(auto, using(crate::proofs::Nodes::type_is))]
+pub(crate) fn copy_lvalue(
+    out: &mut Emitter,
+    scope: &Scope,
+    to: &TypedExpr,
+    q: u32,
+    from: &TypedExpr,
+    p: u32,
+) -> Result<u32, Trouble>
+    requires { IsSound out.old }
+    ensures made { Outcome out.old (lvalues.copied_made (part scope.now from.now).lvalue.root (part scope.now to.now).lvalue.root
+        (scalars scope.now.structs (part scope.now to.now).ty) (code_of out.old (held p)) (code_of out.old (held q))) result out.new }
+    ensures sound { IsSound out.new }
+{
+    let source = root(scope, from)?;
+    let target = root(scope, to)?;
+    copy_struct(out, &scope.structs, &to.ty, &source, p, &target, q)
 }

@@ -1,15 +1,15 @@
 //! What emits one level of a tree takes the functions that emit its parts, so that each row is proved by itself.
 
 ghost use Rattle.std.specs.Prelude.{◌≡◌, ◌-◌, ◌<◌};
-ghost use Rattle.elab_expr.specs.Emits.{IsSound, Outcome, code_of};
+ghost use Rattle.elab_emit.specs.Emits.{IsSound, Outcome, code_of};
 ghost use Rattle.elab_rows.specs.Values as spec;
 ghost use Rattle.elab_rows.specs.Values.{part};
 ghost use Rattle.elab_expr.specs.inner.Nests.{Nests};
 
-use crate::emitter::{Emitter, Trouble};
 use crate::parts::convert_value;
 use c_typed::TypedExpr;
 use c_types::Ty;
+use elab_emit::{Emitter, Trouble};
 use elab_rows::Scope;
 
 /// What emits one level of a tree.

@@ -3,20 +3,19 @@
 ghost use Rattle.std.specs.Prelude.{◌≡◌};
 ghost use Rattle.c_typed.specs.declared.expression.TypedExpr.{out-TypedExpr};
 ghost use Rattle.elab_rows.specs.Addresses as lvalues;
-ghost use Rattle.elab_expr.specs.Emits.{IsSound, Outcome, code_of};
+ghost use Rattle.elab_emit.specs.Emits.{IsSound, Outcome, code_of};
 ghost use Rattle.elab_rows.specs.Values as spec;
 ghost use Rattle.elab_rows.specs.Values.{part};
 ghost use Rattle.elab_expr.specs.inner.Nests.{Nests};
 ghost use Rattle.elab_expr.specs.inner.Nodes.{node};
 
-use crate::emitter::{Emitter, Trouble};
 use crate::named::name;
-use crate::parts::{size, size_of, value_of};
+use crate::parts::{size_of, value_of};
 use crate::pass::Pass;
-use crate::rows::{function, number, slot, string};
 use c_tree::BinaryOperator;
 use c_typed::{Constant, TypedExpr, TypedForm};
 use c_types::{Ty, is_void};
+use elab_emit::{Emitter, Trouble, function, number, size, slot, string};
 use elab_rows::{Named, Scope};
 
 impl<'s, V, A> Pass<'s, V, A>

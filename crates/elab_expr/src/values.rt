@@ -1,15 +1,15 @@
 //! The code of expressions: what emits one level, tied to itself.
 
 ghost use Rattle.std.specs.Prelude.{◌≡◌};
-ghost use Rattle.elab_expr.specs.Emits.{IsSound, Outcome, code_of};
+ghost use Rattle.elab_emit.specs.Emits.{IsSound, Outcome, code_of};
 ghost use Rattle.elab_rows.specs.Values as spec;
 ghost use Rattle.elab_rows.specs.Values.{part};
 
-use crate::emitter::{Emitter, Trouble};
 use crate::parts::convert_value;
 use crate::pass::Pass;
 use c_typed::TypedExpr;
 use c_types::Ty;
+use elab_emit::{Emitter, Trouble};
 use elab_rows::Scope;
 
 /// How deep a tree may nest. Those of sources nest a few hundred deep.

@@ -1,9 +1,9 @@
 -- What is added to the code of a function.
 use Rattle.std.specs.Prelude.{◌≡◌, ℕ, max, List, ◌++◌, length, Result, Ok, Err}
 use Rattle.core_ir.specs.declared.instr.Instr.{Instr}
-use Rattle.elab_expr.specs.Emits.{IsSound, Stops}
+use Rattle.elab_emit.specs.Emits.{IsSound, Stops}
 use Rattle.elab_rows.specs.Made.{Code, Made}
-use Rattle.elab_expr.specs.declared.emitter.Trouble.{Trouble}
+use Rattle.elab_emit.specs.declared.emitter.Trouble.{Trouble}
 use Rattle.elab_pieces.specs.Lines.{Piece, PieceCode, led}
 use Rattle.elab.specs.declared.body.Body.{Body}
 

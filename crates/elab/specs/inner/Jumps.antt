@@ -3,9 +3,9 @@ use Rattle.std.specs.Prelude.{◌≡◌, ℕ, ◌+◌, ◌<◌, Bool, true, fals
 use Rattle.core_ir.specs.declared.instr.Instr.{Instr}
 use Rattle.core_ir.specs.declared.instr.Instr.TheVariants.{Branch, Jump}
 use Rattle.elab_rows.specs.Choices.{tested}
-use Rattle.elab_expr.specs.Emits.{Stops}
+use Rattle.elab_emit.specs.Emits.{Stops}
 use Rattle.elab_rows.specs.Made.{Made}
-use Rattle.elab_expr.specs.declared.emitter.Trouble.{Trouble}
+use Rattle.elab_emit.specs.declared.emitter.Trouble.{Trouble}
 use Rattle.elab_pieces.specs.Lines.{Breaks, Continues, Does, Line, Piece, led}
 use Rattle.elab_pieces.specs.Statements.{test_lines, test_registers, test_slot}
 use Rattle.elab.specs.declared.body.Body.{Body}

@@ -9,7 +9,7 @@ use Rattle.elab_rows.specs.Addresses.{Lvalue, assigned, global_address, local_ad
 use Rattle.elab_rows.specs.Made.{Code, converted}
 use Rattle.elab_rows.specs.Rows.{number}
 use Rattle.elab_rows.specs.Units.{repeated}
-use Rattle.elab_expr.specs.declared.emitter.Trouble.{Trouble}
+use Rattle.elab_emit.specs.declared.emitter.Trouble.{Trouble}
 use Rattle.elab_rows.specs.declared.scope.Scope.{Scope}
 use Rattle.elab_pieces.specs.Initialisers.{Leaf, Leaves, brace_leaves, given_leaves, initialised_at, leaf_code, leaves, part_lvalue}
 use Rattle.elab_pieces.specs.Lines.{PieceCode, all_full, full, joined, no_lines}

@@ -8,8 +8,8 @@ use Rattle.core_ir.specs.declared.program.Function.{Function}
 use Rattle.core_ir.specs.declared.program.GlobalVar.{GlobalVar}
 use Rattle.core_ir.specs.Layout.{first_address, global_units}
 use Rattle.core_ir.specs.Valid.{most_frame_units, most_global_units, most_instructions, most_registers, most_slots}
-use Rattle.elab_expr.specs.declared.emitter.Trouble.{Trouble}
-use Rattle.elab_expr.specs.declared.emitter.Trouble.TheVariants.{TooLong, Memory}
+use Rattle.elab_emit.specs.declared.emitter.Trouble.{Trouble}
+use Rattle.elab_emit.specs.declared.emitter.Trouble.TheVariants.{TooLong, Memory}
 use Rattle.elab_rows.specs.declared.scope.Scope.{Scope}
 use Rattle.elab_rows.specs.declared.scope.Standing.{Standing}
 use Rattle.elab_pieces.specs.Entry.{entry_function}

@@ -1,7 +1,5 @@
 -- Code that stands behind the code of a value, which a register then has.
-use Rattle.std.specs.Prelude.{◌≡◌, ℕ, false, ◌++◌}
-use Rattle.c_types.specs.declared.ty.Ty.{Ty}
-use Rattle.elab_rows.specs.Addresses.{Lvalue}
+use Rattle.std.specs.Prelude.{◌≡◌, ℕ, ◌++◌}
 use Rattle.elab_rows.specs.Made.{Made, Code, behind, held}
 
 abbrev pub prefixed : Made → Made → Made
@@ -15,7 +13,3 @@ over a f place register slot =
 -- a row that begins with the code of its operand
 abbrev pub BeginsWith : (Code → Code) → Type 0
 BeginsWith f = (a : Code) (place register slot : ℕ) → f a place register slot ≡ over a f place register slot
-
--- an lvalue of this type and root, at an address
-abbrev pub from_root : Ty → Ty → Code → Lvalue
-from_root t root a = record { ty = t; root = root; address = a; is_member = false }

@@ -1,12 +1,12 @@
 -- Several values, what stands behind them, and the old and the new value of what an operator changes.
-use Rattle.std.specs.Prelude.{◌≡◌, ℕ, ◌+◌, List, [], ◌∷◌, ◌++◌, length, Result, Ok, Err}
+use Rattle.std.specs.Prelude.{◌≡◌, ℕ, List, ◌++◌, length, Result, Ok, Err}
 use Rattle.c_types.specs.declared.ty.FnTy.{FnTy}
-use Rattle.core_ir.specs.declared.instr.Instr.TheVariants.{GetLocal}
-use Rattle.elab_expr.specs.declared.emitter.Emitter.{Emitter}
-use Rattle.elab_expr.specs.declared.emitter.Trouble.{Trouble}
-use Rattle.elab_expr.specs.declared.finish.Updated.{Updated}
+use Rattle.elab_emit.specs.declared.emitter.Emitter.{Emitter}
+use Rattle.elab_emit.specs.declared.emitter.Trouble.{Trouble}
+use Rattle.elab_expr.specs.declared.assignments.Updated.{Updated}
 use Rattle.elab_rows.specs.Calls.{Listed, arguments, built_in_made, call_made, indirect_made, placed}
-use Rattle.elab_expr.specs.Emits.{Adds, IsSound, Stops, code_of}
+use Rattle.elab_emit.specs.Emits.{Adds, IsSound, Stops, code_of}
+use Rattle.elab_emit.specs.Held.{listed}
 use Rattle.elab_rows.specs.Made.{Code, Made}
 use Rattle.elab_rows.specs.Values.{Part, returns}
 use Rattle.elab_rows.specs.declared.named.Named.{Named}
@@ -15,10 +15,6 @@ use Rattle.elab_rows.specs.declared.named.Named.TheVariants as named
 -- the code of several values here
 abbrev pub list_of : Emitter → List Code → Listed
 list_of e parts = arguments parts (length e.code) e.register e.slot
-
--- values that registers have already
-abbrev pub listed : Emitter → List ℕ → Listed
-listed e registers = record { code = []; results = registers; register = e.register; slot = e.slot }
 
 abbrev pub ArgumentsOutcome : Emitter → Listed → Result (List ℕ) Trouble → Emitter → Type 0
 ArgumentsOutcome old l (Ok rs) new = Adds old l.code l.register l.slot new × (rs ≡ l.results)
@@ -31,11 +27,6 @@ pub record Reaches (start : Emitter) (all : Listed) (found : List ℕ) (now : Em
   pub register : all.register ≡ rest.register
   pub slot : all.slot ≡ rest.slot
   pub sound : IsSound now
-
-abbrev pub ResultOutcome : Emitter → Result ℕ Trouble → Emitter → Type 0
-ResultOutcome old (Ok r) new =
-    Adds old (GetLocal old.register old.slot ∷ []) (old.register + 1) (old.slot + 1) new × (r ≡ old.register)
-ResultOutcome old (Err e) new = Stops old (GetLocal old.register old.slot ∷ []) e
 
 abbrev pub end_by : Named → FnTy → Listed → Made → Made
 end_by (named.Function n) t l c = call_made n (returns t) l

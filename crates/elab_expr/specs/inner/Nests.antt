@@ -2,10 +2,10 @@
 use Rattle.std.specs.Prelude.{ℕ, ◌<◌, Result}
 use denote.Ref.{Bor, MutBor}
 use Rattle.c_typed.specs.declared.expression.TypedExpr.{TypedExpr}
-use Rattle.elab_expr.specs.declared.emitter.Emitter.{Emitter}
-use Rattle.elab_expr.specs.declared.emitter.Trouble.{Trouble}
+use Rattle.elab_emit.specs.declared.emitter.Emitter.{Emitter}
+use Rattle.elab_emit.specs.declared.emitter.Trouble.{Trouble}
 use Rattle.elab_rows.specs.declared.scope.Scope.{Scope}
-use Rattle.elab_expr.specs.Emits.{IsSound, Outcome, code_of}
+use Rattle.elab_emit.specs.Emits.{IsSound, Outcome, code_of}
 use Rattle.elab_rows.specs.Values.{part}
 
 pub record Nests (depth : ℕ)

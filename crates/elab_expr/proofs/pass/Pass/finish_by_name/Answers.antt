@@ -1,6 +1,6 @@
 use Rattle.elab_rows.specs.Values.{part}
-use Rattle.elab_expr.specs.Emits.{code_of}
-use Rattle.elab_expr.specs.inner.Lists.{listed}
+use Rattle.elab_emit.specs.Emits.{code_of}
+use Rattle.elab_emit.specs.Held.{listed}
 use Rattle.elab_expr.proofs.NamedRows.{end_other}
 use Rattle.elab_expr.proofs.pass.Pass.finish_by_name.Goals as goal
 

@@ -1,6 +1,6 @@
 use Rattle.std.proofs.lemmas.Result.{err_from_is_err_and}
 use Rattle.elab_rows.specs.Calls.{placed}
-use Rattle.elab_expr.specs.Emits.{code_of}
+use Rattle.elab_emit.specs.Emits.{code_of}
 use Rattle.elab_rows.specs.Values.{part, returns}
 use Rattle.elab_expr.proofs.CallRows.{indirect_row, indirect_stop}
 use Rattle.elab_expr.proofs.pass.Pass.indirect_call.Goals as goal

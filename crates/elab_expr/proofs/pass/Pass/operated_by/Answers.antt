@@ -5,7 +5,7 @@ use Rattle.elab_expr.proofs.ValueRows.{operation_step, operation_stop, operation
 use Rattle.elab_expr.proofs.pass.Pass.operated_by.Goals as goal
 
 pub returns-clause-made : goal.returns-clause-made
-returns-clause-made g c = operation_step c.args.operation.now (old_operand (part c.args.self.now.scope.now c.args.x.now) (held c.args.a)) (operand (part c.args.self.now.scope.now c.args.y.now)) c.args.out.now _ _ _ _ _ _ c.in_ok-a.ensures.made c.in_ok-b.ensures.made c.finish.ensures.made
+returns-clause-made g c = operation_step c.args.operation.now (old_operand (part c.args.self.now.scope.now c.args.x.now) (held c.args.a)) (operand (part c.args.self.now.scope.now c.args.y.now)) c.args.out.now _ _ _ _ _ _ c.in_ok-a.ensures.made c.in_ok-b.ensures.made c.finish_operation.ensures.made
 
 pub returns-in_err-a-clause-made : goal.returns-in_err-a-clause-made
 returns-in_err-a-clause-made g c =

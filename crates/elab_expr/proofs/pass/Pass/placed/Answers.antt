@@ -1,7 +1,7 @@
 use Rattle.std.proofs.lemmas.Result.{err_from_is_err_and}
 use Rattle.std.proofs.Common.{◌∙◌, arith, rules, sym}
 use Rattle.std.proofs.lemmas.Grind.{common_steps}
-use Rattle.elab_expr.specs.Emits.{code_of}
+use Rattle.elab_emit.specs.Emits.{code_of}
 use Rattle.elab_rows.specs.Values.{part}
 use Rattle.elab_expr.proofs.CallRows.{placed_stop}
 use Rattle.elab_expr.proofs.PlacedRows.{kept_at, placed_at}

@@ -1,0 +1,4 @@
+pub mod CopyRows
+pub mod Elements
+pub mod Scalars
+pub mod SeenPlaces

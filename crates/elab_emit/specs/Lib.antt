@@ -1,0 +1,4 @@
+pub mod Emits
+pub mod Held
+pub mod Holes
+pub mod inner

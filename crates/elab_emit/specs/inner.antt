@@ -1,0 +1,4 @@
+pub mod Copies
+pub mod Elements
+pub mod Places
+pub mod Results
