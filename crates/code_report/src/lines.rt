@@ -9,7 +9,7 @@ use sensitivity::Class;
 use std::alloc::AllocError;
 
 /// The word for a class.
-pub(crate) fn class_word(class: Class) -> &'static [u8]
+fn class_word(class: Class) -> &'static [u8]
     ensures { result.now ≡ spec.class_word class }
 {
     match class {
