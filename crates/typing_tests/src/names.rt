@@ -5,7 +5,7 @@ use std::test::Fail;
 
 #[test]
 fn names_are_declared_before_they_are_used(rt: HostRuntime) -> Result<(), Fail> {
-    let rows: [(&[u8], u32, u8); 18] = [
+    let rows: [(&[u8], u32, u8); 25] = [
         (b"void t(void){x;}", 0, 1),
         (b"void t(void){int x;x;}", 0, 0),
         (b"int x=x;", 0, 16),
@@ -24,6 +24,13 @@ fn names_are_declared_before_they_are_used(rt: HostRuntime) -> Result<(), Fail> 
         (b"typedef int t,x[sizeof t];", 0, 1),
         (b"int x={nowhere};", 0, 1),
         (b"int f(int a,int b[a]);", 0, 16),
+        (b"int x[sizeof x];", 0, 1),
+        (b"void t(void){print(print);}", 0, 1),
+        (b"void t(void){(*print)(1);}", 0, 1),
+        (b"void g(void){{int f(void);}f();}", 0, 1),
+        (b"void g(void){int f(void);}void h(void){f();}", 1, 1),
+        (b"void t(void){int x=x;}", 0, 0),
+        (b"int f(void){return f();}", 0, 0),
     ];
     for (source, item, rule) in rows {
         assert_eq!(rt;
@@ -37,7 +44,7 @@ fn names_are_declared_before_they_are_used(rt: HostRuntime) -> Result<(), Fail> 
 
 #[test]
 fn a_scope_has_a_name_once(rt: HostRuntime) -> Result<(), Fail> {
-    let rows: [(&[u8], u32, u8); 25] = [
+    let rows: [(&[u8], u32, u8); 34] = [
         (b"int x;int x;", 1, 2),
         (b"int x;char x;", 1, 2),
         (b"int x;void x(void);", 1, 2),
@@ -63,6 +70,19 @@ fn a_scope_has_a_name_once(rt: HostRuntime) -> Result<(), Fail> {
         (b"void g(void){int f(void);}char f(void);", 1, 2),
         (b"void g(void){int f(void);}int f;", 0, 0),
         (b"void g(void){int f(void);int f(void);}", 0, 0),
+        (b"void x(void);int x;", 1, 2),
+        (b"void g(void){int f;int f(void);}", 0, 2),
+        (b"void g(void){int f(void);int f;}", 0, 2),
+        (b"int f;void g(void){int f(void);}", 0, 0),
+        (b"typedef int t,t;", 0, 2),
+        (b"int f(void){return 0;}char f(void){return 0;}", 1, 2),
+        (
+            b"void g(void){int f(void);}void h(void){char f(void);}",
+            1,
+            2,
+        ),
+        (b"void t(void){void print(int);}", 0, 0),
+        (b"typedef void fn(int);fn print;", 0, 0),
     ];
     for (source, item, rule) in rows {
         assert_eq!(rt;
@@ -76,7 +96,7 @@ fn a_scope_has_a_name_once(rt: HostRuntime) -> Result<(), Fail> {
 
 #[test]
 fn functions_that_are_used_are_defined(rt: HostRuntime) -> Result<(), Fail> {
-    let rows: [(&[u8], u32, u8); 8] = [
+    let rows: [(&[u8], u32, u8); 11] = [
         (b"void f(int);int g(void){f(1);return 0;}", 0, 6),
         (b"void f(int);void g(void){f(1);}void f(int n){}", 0, 0),
         (b"void f(int);", 0, 0),
@@ -89,6 +109,13 @@ fn functions_that_are_used_are_defined(rt: HostRuntime) -> Result<(), Fail> {
         (b"void f(void);void (*p)(void)=f;", 0, 6),
         (b"void t(void){int f(void);0?f():f();}", 0, 6),
         (b"void t(void){print(1);}", 0, 0),
+        (b"int x;void g(void){void f(void);f();}", 1, 6),
+        (
+            b"void g(void){void f(void);}void h(void){void f(void);f();}",
+            0,
+            6,
+        ),
+        (b"void t(void){int f(void);}", 0, 0),
     ];
     for (source, item, rule) in rows {
         assert_eq!(rt;

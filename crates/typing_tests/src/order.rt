@@ -6,7 +6,7 @@ use std::test::Fail;
 
 #[test]
 fn the_first_broken_rule_is_named(rt: HostRuntime) -> Result<(), Fail> {
-    let rows: [(&[u8], u32, u8); 15] = [
+    let rows: [(&[u8], u32, u8); 35] = [
         (b"int a[1]={1,nowhere};", 0, 1),
         (b"int x;int x2[y];", 1, 1),
         (b"void t(int n,int a[n()]);", 0, 10),
@@ -22,6 +22,30 @@ fn the_first_broken_rule_is_named(rt: HostRuntime) -> Result<(), Fail> {
         (b"int x;void t(void){y;}int x;", 1, 1),
         (b"void f(void);void t(void){f();}int x;int x;", 3, 2),
         (b"int f(void){return f;}", 0, 8),
+        (b"int x;void x[2];", 1, 2),
+        (b"void f(int a,struct s a);", 0, 2),
+        (b"struct s{int a;void a;};", 0, 3),
+        (b"void f(struct s{void x;}*p);", 0, 4),
+        (
+            b"typedef int fn(void);int f(void){return 0;}fn f{return 0;}",
+            2,
+            2,
+        ),
+        (b"void t(void){(int[0])x;}", 0, 3),
+        (b"void t(void){(int[2])x;}", 0, 1),
+        (b"void t(void){for(1=2;x;);}", 0, 13),
+        (b"void t(void){for(;x;1=2);}", 0, 1),
+        (b"void t(void){for(;;1=2)x;}", 0, 13),
+        (b"void t(void){do 1=2;while(x);}", 0, 13),
+        (b"void t(void){if(t())x;}", 0, 17),
+        (b"void t(void){int *p;p+=p;}", 0, 7),
+        (b"void t(void){int *p;1+=p;}", 0, 8),
+        (b"void t(void){1(x);}", 0, 1),
+        (b"int x=y,z=1=2;", 0, 1),
+        (b"int a[0]={y};", 0, 3),
+        (b"int a[]={y};", 0, 1),
+        (b"int n;int a[n][0];", 1, 16),
+        (b"int n;int a[0][n];", 1, 3),
     ];
     for (source, item, rule) in rows {
         assert_eq!(rt;
@@ -76,6 +100,56 @@ fn a_thousand_parts_are_allowed(rt: HostRuntime) -> Result<(), Fail> {
     let longer = starred(rt.alloc(), 1_000)?;
     assert_eq!(rt;
         verdict_of_whole(rt.alloc(), longer.as_slice())?,
+        Verdict::Refused(0, 3)
+    );
+    Ok(())
+}
+
+/// So many structs with tags of their own.
+fn tagged(alloc: Global, tags: u32) -> Result<Vec<u8>, AllocError> {
+    let mut source = Vec::new(alloc);
+    for number in 0..tags {
+        let tag = format!(in alloc; "struct s{number};")?;
+        source.extend_from_slice(tag.as_bytes())?;
+    }
+    Ok(source)
+}
+
+#[test]
+fn a_thousand_and_24_tags_are_allowed(rt: HostRuntime) -> Result<(), Fail> {
+    let source = tagged(rt.alloc(), 1_024)?;
+    assert_eq!(rt;
+        verdict_of(rt.alloc(), source.as_slice())?,
+        Verdict::Accepted
+    );
+    let longer = tagged(rt.alloc(), 1_025)?;
+    assert_eq!(rt;
+        verdict_of(rt.alloc(), longer.as_slice())?,
+        Verdict::Refused(1_024, 4)
+    );
+    Ok(())
+}
+
+/// `char x[]=`, a string of so many bytes, and `;`
+fn filled(alloc: Global, bytes: u32) -> Result<Vec<u8>, AllocError> {
+    let mut source = Vec::from_slice(alloc, b"char x[]=\"".as_slice())?;
+    for _ in 0..bytes {
+        source.push(b'a')?;
+    }
+    source.extend_from_slice(b"\";".as_slice())?;
+    Ok(source)
+}
+
+#[test]
+fn a_string_gives_a_bound_of_65536(rt: HostRuntime) -> Result<(), Fail> {
+    let source = filled(rt.alloc(), 65_535)?;
+    assert_eq!(rt;
+        verdict_of(rt.alloc(), source.as_slice())?,
+        Verdict::Accepted
+    );
+    let longer = filled(rt.alloc(), 65_536)?;
+    assert_eq!(rt;
+        verdict_of(rt.alloc(), longer.as_slice())?,
         Verdict::Refused(0, 3)
     );
     Ok(())

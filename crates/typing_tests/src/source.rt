@@ -35,7 +35,7 @@ pub(crate) fn verdict_of(alloc: Global, source: &[u8]) -> Result<Verdict, Fail> 
 
 /// What is answered of a source as it is.
 pub(crate) fn verdict_of_whole(alloc: Global, source: &[u8]) -> Result<Verdict, Fail> {
-    if source.len() > 10_000 {
+    if source.len() > 100_000 {
         return Err(Fail::from("a long source"));
     }
     let tokens = lex(alloc, source)?;

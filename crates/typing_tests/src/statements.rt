@@ -5,7 +5,7 @@ use std::test::Fail;
 
 #[test]
 fn loops_are_left_inside_them(rt: HostRuntime) -> Result<(), Fail> {
-    let rows: [(&[u8], u32, u8); 6] = [
+    let rows: [(&[u8], u32, u8); 9] = [
         (b"void t(void){break;}", 0, 14),
         (b"void t(void){continue;}", 0, 14),
         (b"void t(void){while(1){break;continue;}}", 0, 0),
@@ -16,6 +16,9 @@ fn loops_are_left_inside_them(rt: HostRuntime) -> Result<(), Fail> {
         ),
         (b"void t(void){if(1)break;}", 0, 14),
         (b"void t(void){while(1);break;}", 0, 14),
+        (b"void t(void){while(0){}continue;}", 0, 14),
+        (b"void t(void){if(1);else break;}", 0, 14),
+        (b"void t(void){while(1){if(1){break;}else continue;}}", 0, 0),
     ];
     for (source, item, rule) in rows {
         assert_eq!(rt;
@@ -29,7 +32,7 @@ fn loops_are_left_inside_them(rt: HostRuntime) -> Result<(), Fail> {
 
 #[test]
 fn returns_fit_their_function(rt: HostRuntime) -> Result<(), Fail> {
-    let rows: [(&[u8], u32, u8); 7] = [
+    let rows: [(&[u8], u32, u8); 10] = [
         (b"void t(void){return 1;}", 0, 15),
         (b"void t(void){return t();}", 0, 15),
         (b"int f(void){return;}", 0, 15),
@@ -37,6 +40,9 @@ fn returns_fit_their_function(rt: HostRuntime) -> Result<(), Fail> {
         (b"int f(void){return 1;}", 0, 0),
         (b"int f(int *p){return p;}", 0, 8),
         (b"void t(void){return;}", 0, 0),
+        (b"void t(void){if(1){return 0;}}", 0, 15),
+        (b"int *f(void){while(1)return;}", 0, 15),
+        (b"char f(void){return 300;}", 0, 0),
     ];
     for (source, item, rule) in rows {
         assert_eq!(rt;
@@ -50,7 +56,7 @@ fn returns_fit_their_function(rt: HostRuntime) -> Result<(), Fail> {
 
 #[test]
 fn globals_begin_with_constants(rt: HostRuntime) -> Result<(), Fail> {
-    let rows: [(&[u8], u32, u8); 21] = [
+    let rows: [(&[u8], u32, u8); 30] = [
         (b"int n;int a=n;", 1, 16),
         (b"int a=1+2*3;", 0, 0),
         (b"int a=1/0;", 0, 16),
@@ -76,6 +82,15 @@ fn globals_begin_with_constants(rt: HostRuntime) -> Result<(), Fail> {
         (b"int x;int a[sizeof x];", 1, 16),
         (b"int a[sizeof(int)];", 0, 0),
         (b"void f(void){int n;int m=n;}", 0, 0),
+        (b"int a[3];int *p=&a[-1];", 1, 16),
+        (b"int a[3];int n;int *p=&a[n];", 2, 16),
+        (b"int *p;int *q=&*p;", 1, 16),
+        (b"struct s{int a;};struct s *p;int *q=&p->a;", 2, 16),
+        (b"char *p=&\"a\"[0];", 0, 16),
+        (b"int n;int a[2]={1,n};", 1, 16),
+        (b"int x=0&&1/0;int y=1?2:1/0;", 0, 0),
+        (b"void t(void){int n;int a[n];}", 0, 16),
+        (b"int a[2];int x=(int)a;char c=(char)&a[1];", 0, 0),
     ];
     for (source, item, rule) in rows {
         assert_eq!(rt;
@@ -89,7 +104,7 @@ fn globals_begin_with_constants(rt: HostRuntime) -> Result<(), Fail> {
 
 #[test]
 fn initialisers_follow_their_type(rt: HostRuntime) -> Result<(), Fail> {
-    let rows: [(&[u8], u32, u8); 15] = [
+    let rows: [(&[u8], u32, u8); 23] = [
         (b"int x={5};", 0, 18),
         (b"int a[2]={1,2,3};", 0, 18),
         (b"int a[2]={1};", 0, 0),
@@ -109,6 +124,18 @@ fn initialisers_follow_their_type(rt: HostRuntime) -> Result<(), Fail> {
         (b"struct s{int a;};struct s x;struct s y=x;", 2, 16),
         (b"struct s{int a;};struct s x=1;", 1, 8),
         (b"void t(void){char a[2][4]={\"abc\",\"de\"};}", 0, 0),
+        (b"int *p={0};", 0, 18),
+        (b"int a[2]={{1},2};", 0, 18),
+        (b"int a[2]=\"a\";", 0, 18),
+        (b"char *a[2]={\"a\",\"b\"};", 0, 0),
+        (b"struct s{int a;char b[4];};struct s x={1,\"abc\"};", 0, 0),
+        (b"struct s{int a;char b[3];};struct s x={1,\"abc\"};", 1, 18),
+        (b"struct s{int a;};void t(void){struct s x={{1}};}", 1, 18),
+        (
+            b"struct s{int a;};void t(void){struct s x={1};struct s y[1]={x};}",
+            0,
+            0,
+        ),
     ];
     for (source, item, rule) in rows {
         assert_eq!(rt;

@@ -5,7 +5,7 @@ use std::test::Fail;
 
 #[test]
 fn declared_types_have_units(rt: HostRuntime) -> Result<(), Fail> {
-    let rows: [(&[u8], u32, u8); 30] = [
+    let rows: [(&[u8], u32, u8); 46] = [
         (b"void x;", 0, 3),
         (b"struct s;struct s x;", 1, 3),
         (b"struct s;struct s *x;", 0, 0),
@@ -36,6 +36,26 @@ fn declared_types_have_units(rt: HostRuntime) -> Result<(), Fail> {
         (b"void f(void x[2]);", 0, 3),
         (b"typedef int t[];", 0, 3),
         (b"typedef void t;", 0, 0),
+        (b"struct s{int a[];};", 0, 3),
+        (b"struct s{int a[65537];};", 0, 3),
+        (b"struct s{int f(void);};", 0, 3),
+        (b"struct s{int a[40000];int b[40000];};struct s *x;", 0, 0),
+        (b"struct s{int a[40000];int b[40000];};struct s x;", 1, 3),
+        (b"struct s{int a[40000];int b[40000];};struct s x[2];", 1, 3),
+        (
+            b"struct s{int a[40000];int b[40000];};int a[sizeof(struct s)];",
+            1,
+            3,
+        ),
+        (b"void t(void){void x;}", 0, 3),
+        (b"void t(void){sizeof(int[2][40000]);}", 0, 3),
+        (b"void t(void){(int(*)[0])1;}", 0, 3),
+        (b"int a[1];", 0, 0),
+        (b"int f(int a[0]);", 0, 3),
+        (b"typedef int t[0];", 0, 3),
+        (b"typedef void t[2];", 0, 3),
+        (b"typedef struct u t;t *x;", 0, 0),
+        (b"typedef struct u t;t x;", 1, 3),
     ];
     for (source, item, rule) in rows {
         assert_eq!(rt;
@@ -49,7 +69,7 @@ fn declared_types_have_units(rt: HostRuntime) -> Result<(), Fail> {
 
 #[test]
 fn tags_and_members_are_declared_once(rt: HostRuntime) -> Result<(), Fail> {
-    let rows: [(&[u8], u32, u8); 8] = [
+    let rows: [(&[u8], u32, u8); 15] = [
         (b"struct s{int a;};struct s{int a;};", 1, 4),
         (b"struct s{int a;int a;};", 0, 4),
         (b"struct s{int a;};struct u{int a;};", 0, 0),
@@ -58,6 +78,13 @@ fn tags_and_members_are_declared_once(rt: HostRuntime) -> Result<(), Fail> {
         (b"struct s{struct u{int a;}b;};", 0, 4),
         (b"struct s{int a;struct s b;int a;};", 0, 3),
         (b"typedef struct s{int a;}t;t x;", 0, 0),
+        (b"struct s{int a,b,a;};", 0, 4),
+        (b"struct s{int s;};", 0, 0),
+        (b"void t(void){for(struct s{int a;}x;;);}", 0, 4),
+        (b"struct s{int a;}*f(void){return 0;}", 0, 0),
+        (b"struct s{int a;};struct s{void x;};", 1, 4),
+        (b"struct s *x;struct s{int a;};", 0, 0),
+        (b"void t(void){struct s{int a;};}", 0, 4),
     ];
     for (source, item, rule) in rows {
         assert_eq!(rt;
@@ -71,7 +98,7 @@ fn tags_and_members_are_declared_once(rt: HostRuntime) -> Result<(), Fail> {
 
 #[test]
 fn declarations_have_an_allowed_form(rt: HostRuntime) -> Result<(), Fail> {
-    let rows: [(&[u8], u32, u8); 17] = [
+    let rows: [(&[u8], u32, u8); 26] = [
         (b"void f(struct s x);", 0, 18),
         (b"struct s{int a;};void f(struct s x);", 1, 18),
         (b"void f(void x);", 0, 18),
@@ -97,6 +124,15 @@ fn declarations_have_an_allowed_form(rt: HostRuntime) -> Result<(), Fail> {
         (b"int f()(int);", 0, 18),
         (b"struct u x{}", 0, 18),
         (b"int *f(){return 0;}", 0, 0),
+        (b"int f(int a,int){return 0;}", 0, 18),
+        (b"int f(int a,int);", 0, 0),
+        (b"int (*f)(int,int,int,int,int,int,int,int,int);", 0, 18),
+        (b"int x{}", 0, 18),
+        (b"int f(void)=0;", 0, 18),
+        (b"typedef int fn(void);fn f(void);", 1, 18),
+        (b"typedef int fn(void);void t(void){fn f;}", 0, 0),
+        (b"void t(void){(int(*)(void)[2])0;}", 0, 18),
+        (b"struct s{int a;};int f(int (*g)(struct s x));", 1, 18),
     ];
     for (source, item, rule) in rows {
         assert_eq!(rt;
