@@ -9,7 +9,7 @@ use Rattle.c_typing_types.proofs.Known.{callee-fine}
 use Rattle.c_typing_types.proofs.Sources.{source-passes}
 use Rattle.c_typing_types.proofs.Tests.{bounds, names}
 use Rattle.c_typing_types.proofs.Together.{together}
-use Rattle.c_typing_types.proofs.Units.{units-positive}
+use Rattle.c_typing_types.proofs.Units.{members-bounded, units-positive}
 
 pub structs-named : TypesNameStructs
 structs-named = record {
@@ -28,6 +28,7 @@ functions-declarable = record {
 pub bounds-given : BoundsAreGiven
 bounds-given = record {
   types = λ s t is filled. (source-passes (bounds (length t.structs)) s t is filled (le_refl (length t.structs))).items;
+  members = λ s t is filled. members-bounded (length t.structs) t.structs (source-passes (bounds (length t.structs)) s t is filled (le_refl (length t.structs))).structs;
   units = λ s t is filled u bounded. units-positive (length t.structs) t.structs (source-passes (bounds (length t.structs)) s t is filled (le_refl (length t.structs))).structs u bounded;
 }
 

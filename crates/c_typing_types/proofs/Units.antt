@@ -12,7 +12,7 @@ use Rattle.c_types.specs.Units.{body_units, exact_units, sized, sized_step, stru
 use Rattle.c_typing_types.specs.Types.{has_bounds}
 use Rattle.c_typing_types.proofs.Good.{both}
 use Rattle.c_typing_types.proofs.Known.{at-held}
-use Rattle.c_typing_types.proofs.Steps.{BodyFine, StructsFine}
+use Rattle.c_typing_types.proofs.Steps.{BodyFine, MembersFine, StructsFine}
 use Rattle.c_typing_types.proofs.Tests.{bounds, bounds-made}
 
 -- what is found, if something is, is at least 1
@@ -97,6 +97,9 @@ module _ (count : ℕ) (defs : List StructDef) (fine : StructsFine (bounds count
   body-fine : (o : Option StructDef) (s : ℕ) → slice_get defs s ≡ o → BodyFine (bounds count) (option_and_then (λ d. d.members) o)
   body-fine None s is = tt
   body-fine (Some d) s is = at-held (λ d. BodyFine (bounds count) d.members) defs s d fine is
+
+  pub members-bounded : (s : ℕ) (ms : List Member) → body_of defs s ≡ Some ms → MembersFine (bounds count) ms
+  members-bounded s ms is = let fine : BodyFine (bounds count) (Some ms) = subst (BodyFine (bounds count)) is (body-fine (slice_get defs s) s refl) in fine.0
 
   struct-positive : (depth s : ℕ) → Positive (struct_units depth defs s)
   unfolding struct_units

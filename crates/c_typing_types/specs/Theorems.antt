@@ -1,12 +1,15 @@
 -- What holds of the types in the typed form of a source.
-use Rattle.std.specs.Prelude.{◌≡◌, ◌≤◌, ℕ, IsTrue, length, Some}
+use Rattle.std.specs.Prelude.{◌≡◌, ◌≤◌, ℕ, IsTrue, List, length, Some}
+use Rattle.std.specs.List.{AllByRecursion}
 use Rattle.c_tree.specs.declared.statement.Unit.{Unit as Source}
 use Rattle.c_tree.specs.Marks.{Kinds}
 use Rattle.c_tree.specs.Statements.{SourceReads}
+use Rattle.c_types.specs.declared.structs.Member.{Member}
 use Rattle.c_types.specs.declared.ty.FnTy.{FnTy}
 use Rattle.c_types.specs.declared.ty.Ty.{Ty}
 use Rattle.c_types.specs.declared.ty.Ty.TheVariants as ty
 use Rattle.c_types.specs.Sound.{names_below}
+use Rattle.c_types.specs.Structs.{body_of}
 use Rattle.c_types.specs.Units.{exact_units}
 use Rattle.c_typed.specs.declared.expression.TypedExpr.{TypedExpr}
 use Rattle.c_typed.specs.declared.unit.Typed.{Typed}
@@ -34,9 +37,17 @@ pub record FunctionsAreDeclarable : Type 0 where
 abbrev pub DerivedSourcesAreFilled : Type 0
 DerivedSourcesAreFilled = (ts : Kinds) (s : Source) → SourceReads ts s → IsTrue (is_filled s)
 
--- where no braces of the source are empty, each bound in a type of it is at least 1, and so are the units of such a type
+-- where no braces of the source are empty, each bound in a type of it, and in its table of structs, is at least 1, and so are the units
+-- of such a type
 pub record BoundsAreGiven : Type 0 where
   pub types : (s : Source) (t : Typed) → HasForm s t → IsTrue (is_filled s) → SourceTypes has_bounds t
+  pub members :
+      (s : Source) (t : Typed)
+      → HasForm s t
+      → IsTrue (is_filled s)
+      → (n : ℕ) (ms : List Member)
+      → body_of t.structs n ≡ Some ms
+      → AllByRecursion (λ m. IsTrue (has_bounds m.ty)) ms
   pub units :
       (s : Source) (t : Typed)
       → HasForm s t

@@ -13,8 +13,8 @@ pub fn functions_are_declarable()
     ensures { FunctionsAreDeclarable }
 {}
 
-/// Where no braces of a source are empty, each bound in a type of its typed form is at least 1, and each type whose bounds
-/// are so has a unit at least, if it has units.
+/// Where no braces of a source are empty, each bound in a type of its typed form, and in its table of structs, is at least 1,
+/// and each type whose bounds are so has a unit at least, if it has units.
 pub fn bounds_are_given()
     ensures { BoundsAreGiven }
 {}
