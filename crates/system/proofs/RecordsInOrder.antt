@@ -1,5 +1,5 @@
 -- Records that go behind a trace one after another.
-use Rattle.std.proofs.Common.{◌≡◌, ℕ, List, [], ◌∷◌, ◌++◌, refl, ap, ◌∙◌}
+use Rattle.std.proofs.Common.{◌≡◌, List, [], ◌∷◌, ◌++◌, refl}
 use Rattle.meaning.specs.declared.record.Record.{Record}
 use Rattle.meaning.specs.Records.{added, added_all}
 

@@ -1,8 +1,7 @@
 -- Lists in which one element is replaced, or one more stands at the end.
-use Rattle.std.proofs.Common.{◌≡◌, ℕ, zero, suc, ◌-◌, ◌≤◌, List, [], ◌∷◌, ◌++◌, length, map, replicate, refl, sym, ap, ◌∙◌, arith, Option, Some, None, slice_get, slice_set, inl, inr, ◌⊎◌, ⊎_elim}
-use Rattle.meaning.specs.declared.value.Value.{Value}
+use Rattle.std.proofs.Common.{◌≡◌, ℕ, zero, suc, ◌≤◌, List, [], ◌∷◌, ◌++◌, length, map, replicate, refl, ap, ◌∙◌, arith, Some, None, slice_get, slice_set, inl, inr, ◌⊎◌, ⊎_elim}
 use Rattle.machine.specs.declared.code.Code.{Code}
-use Rattle.machine.specs.Frames.{Thread, Running, Waiting}
+use Rattle.machine.specs.Frames.{Running, Waiting}
 use Rattle.machine.specs.Protected.{protected}
 use Rattle.machine.specs.Threads.{opened}
 use Rattle.system.specs.inner.Seats.{first_threads}

@@ -1,5 +1,5 @@
 -- What becomes of one thread, as what becomes of the state; and that a system stays one.
-use Rattle.std.proofs.Common.{◌≡◌, ℕ, zero, suc, ◌+◌, ◌-◌, ◌<◌, ◌≤◌, List, [], ◌∷◌, ◌++◌, length, get_or, map, replicate, refl, sym, ap, ◌∙◌, arith, Option, Some, None, slice_get, slice_set, inl, inr, ◌⊎◌, ⊎_elim}
+use Rattle.std.proofs.Common.{◌≡◌, ℕ, zero, suc, ◌+◌, ◌-◌, ◌<◌, ◌≤◌, List, [], ◌∷◌, ◌++◌, length, get_or, map, replicate, sym, ap, ◌∙◌, arith, Option, Some, slice_get, slice_set, ⊎_elim}
 use Rattle.std.proofs.lemmas.List.{length-map, length-set, map_push}
 use Rattle.std.proofs.lemmas.Option.{slice_get-get_or}
 use Rattle.meaning.specs.declared.record.Record.{Record}

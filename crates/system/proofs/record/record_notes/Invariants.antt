@@ -1,4 +1,4 @@
-use Rattle.std.proofs.Common.{◌≡◌, ◌≤◌, ◌+◌, drop, length, map}
+use Rattle.std.proofs.Common.{◌≡◌, ◌≤◌, drop, length, map}
 use Rattle.meaning.specs.declared.record.Record.TheVariants.{Noted}
 use Rattle.meaning.specs.Records.{added_all}
 use Rattle.system.proofs.record.record_notes.Given as goal
