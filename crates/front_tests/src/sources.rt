@@ -30,14 +30,30 @@ fn parsed(
     Ok(parse(alloc, &tokens))
 }
 
+/// What a source gave.
+fn given(answer: Result<Unit, ParseRefusal>) -> Result<Want, Fail> {
+    match answer {
+        Ok(unit) => Ok(Want::Items(unit.items.len())),
+        Err(ParseRefusal::Syntax { item }) => Ok(Want::Syntax(item)),
+        Err(ParseRefusal::Memory) => Err(Fail::from(ParseRefusal::Memory)),
+    }
+}
+
 /// The source gives what is wanted.
 fn expect(rt: &impl Abort, alloc: Global, source: &[u8], want: Want) -> Result<(), Fail> {
-    let found = match parsed(rt, alloc, source)? {
-        Ok(unit) => Want::Items(unit.items.len()),
-        Err(ParseRefusal::Syntax { item }) => Want::Syntax(item),
-        Err(ParseRefusal::Memory) => return Err(Fail::from(ParseRefusal::Memory)),
-    };
+    let found = given(parsed(rt, alloc, source)?)?;
     assert_eq!(rt; found, want, "in {source:?}");
+    Ok(())
+}
+
+/// A source, and what it is to give.
+type Row = (&'static [u8], Want);
+
+/// Each source gives what is wanted.
+fn expect_all(rt: &impl Abort, alloc: Global, rows: &[Row]) -> Result<(), Fail> {
+    for (source, want) in rows {
+        expect(rt, alloc, source, *want)?;
+    }
     Ok(())
 }
 
@@ -49,4 +65,17 @@ fn expect_one(rt: &impl Abort, alloc: Global, source: &[u8], is_one: bool) -> Re
         Want::Syntax(0)
     };
     expect(rt, alloc, source, want)
+}
+
+/// What is nested so is one item, or none.
+fn expect_nested(
+    rt: &impl Abort,
+    alloc: Global,
+    before: &[u8],
+    inside: (&[u8], usize, &[u8], &[u8]),
+    after: &[u8],
+    is_one: bool,
+) -> Result<(), Fail> {
+    let source = nested(alloc, before, inside, after)?;
+    expect_one(rt, alloc, source.as_slice(), is_one)
 }

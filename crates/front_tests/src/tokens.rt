@@ -40,7 +40,7 @@ fn expect_kinds(
     wanted: &[Want],
 ) -> Result<(), Fail> {
     let tokens = lexed(rt, alloc, source)?;
-    assert_eq!(rt; tokens.len(), wanted.len(), "in {source:?}");
+    assert!(rt; tokens.len() == wanted.len(), "in {source:?}");
     for (token, want) in tokens.as_slice().iter().zip(wanted) {
         assert!(rt; is_wanted(&token.kind, want), "in {source:?}");
     }

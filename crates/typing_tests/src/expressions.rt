@@ -1,11 +1,11 @@
 //! Operands, conversions, casts, calls, members, pointers, lvalues and conditions.
 
-use crate::source::{Verdict, verdict_of};
+use crate::source::{Row, expect_all};
 use std::test::Fail;
 
 #[test]
 fn operands_fit_their_operator(rt: HostRuntime) -> Result<(), Fail> {
-    let rows: [(&[u8], u32, u8); 42] = [
+    const ROWS: [Row; 42] = [
         (b"void t(void){int x;int *p;x*p;}", 0, 7),
         (b"void t(void){char c;c+c;}", 0, 0),
         (b"void t(void){int *p;int x;p+x;x+p;p-x;p-p;}", 0, 0),
@@ -53,19 +53,12 @@ fn operands_fit_their_operator(rt: HostRuntime) -> Result<(), Fail> {
         (b"void t(void){int x;int *p;p==x-x;}", 0, 7),
         (b"void t(void){int *p;1-p;}", 0, 7),
     ];
-    for (source, item, rule) in rows {
-        assert_eq!(rt;
-            verdict_of(rt.alloc(), source)?,
-            Verdict::of(item, rule),
-            "of {source:?}"
-        );
-    }
-    Ok(())
+    expect_all(&rt, rt.alloc(), &ROWS)
 }
 
 #[test]
 fn values_convert_to_their_target(rt: HostRuntime) -> Result<(), Fail> {
-    let rows: [(&[u8], u32, u8); 29] = [
+    const ROWS: [Row; 29] = [
         (b"void t(void){int x;int *p;x=p;}", 0, 8),
         (b"void t(void){int *p;p=0;p=1-1;}", 0, 0),
         (b"void t(void){int *p;p=1;}", 0, 8),
@@ -108,19 +101,12 @@ fn values_convert_to_their_target(rt: HostRuntime) -> Result<(), Fail> {
         (b"void t(void){int **p;int *q;p=q;}", 0, 8),
         (b"void t(void){int x;x=&x;}", 0, 8),
     ];
-    for (source, item, rule) in rows {
-        assert_eq!(rt;
-            verdict_of(rt.alloc(), source)?,
-            Verdict::of(item, rule),
-            "of {source:?}"
-        );
-    }
-    Ok(())
+    expect_all(&rt, rt.alloc(), &ROWS)
 }
 
 #[test]
 fn casts_go_between_scalars(rt: HostRuntime) -> Result<(), Fail> {
-    let rows: [(&[u8], u32, u8); 9] = [
+    const ROWS: [Row; 9] = [
         (b"void t(void){(int*)1;(char)t;(void)t;(void)t();}", 0, 0),
         (b"void t(void){(int)t();}", 0, 9),
         (b"void t(void){(int[2])1;}", 0, 9),
@@ -131,19 +117,12 @@ fn casts_go_between_scalars(rt: HostRuntime) -> Result<(), Fail> {
         (b"void t(void){(int(void))1;}", 0, 9),
         (b"struct s;void t(void){(struct s*)1;}", 0, 0),
     ];
-    for (source, item, rule) in rows {
-        assert_eq!(rt;
-            verdict_of(rt.alloc(), source)?,
-            Verdict::of(item, rule),
-            "of {source:?}"
-        );
-    }
-    Ok(())
+    expect_all(&rt, rt.alloc(), &ROWS)
 }
 
 #[test]
 fn calls_fit_their_function(rt: HostRuntime) -> Result<(), Fail> {
-    let rows: [(&[u8], u32, u8); 17] = [
+    const ROWS: [Row; 17] = [
         (b"void t(void){int x;x();}", 0, 10),
         (b"void t(void){int *p;p();}", 0, 10),
         (b"void t(void){t();(*t)();(&t)();(***t)();}", 0, 0),
@@ -170,19 +149,12 @@ fn calls_fit_their_function(rt: HostRuntime) -> Result<(), Fail> {
         (b"void t(int a){t();}", 0, 10),
         (b"void t(void (*f)(int)){f(1);f(1,2);}", 0, 10),
     ];
-    for (source, item, rule) in rows {
-        assert_eq!(rt;
-            verdict_of(rt.alloc(), source)?,
-            Verdict::of(item, rule),
-            "of {source:?}"
-        );
-    }
-    Ok(())
+    expect_all(&rt, rt.alloc(), &ROWS)
 }
 
 #[test]
 fn members_are_of_structs(rt: HostRuntime) -> Result<(), Fail> {
-    let rows: [(&[u8], u32, u8); 13] = [
+    const ROWS: [Row; 13] = [
         (b"void t(void){int x;x.a;}", 0, 11),
         (b"void t(void){int *p;p->a;}", 0, 11),
         (
@@ -217,19 +189,12 @@ fn members_are_of_structs(rt: HostRuntime) -> Result<(), Fail> {
         (b"struct s{int a;};struct s *p;void t(void){p->b;}", 2, 11),
         (b"void t(void){void *p;p->a;}", 0, 11),
     ];
-    for (source, item, rule) in rows {
-        assert_eq!(rt;
-            verdict_of(rt.alloc(), source)?,
-            Verdict::of(item, rule),
-            "of {source:?}"
-        );
-    }
-    Ok(())
+    expect_all(&rt, rt.alloc(), &ROWS)
 }
 
 #[test]
 fn pointers_point_to_what_has_units(rt: HostRuntime) -> Result<(), Fail> {
-    let rows: [(&[u8], u32, u8); 16] = [
+    const ROWS: [Row; 16] = [
         (b"void t(void){int x;*x;}", 0, 12),
         (b"void t(void){int x;x[0];}", 0, 12),
         (b"void t(void){1[2];}", 0, 12),
@@ -255,19 +220,12 @@ fn pointers_point_to_what_has_units(rt: HostRuntime) -> Result<(), Fail> {
         (b"struct s{int a;int b[sizeof *(struct s*)0];};", 0, 12),
         (b"void t(void){*t();}", 0, 12),
     ];
-    for (source, item, rule) in rows {
-        assert_eq!(rt;
-            verdict_of(rt.alloc(), source)?,
-            Verdict::of(item, rule),
-            "of {source:?}"
-        );
-    }
-    Ok(())
+    expect_all(&rt, rt.alloc(), &ROWS)
 }
 
 #[test]
 fn only_lvalues_are_assigned(rt: HostRuntime) -> Result<(), Fail> {
-    let rows: [(&[u8], u32, u8); 23] = [
+    const ROWS: [Row; 23] = [
         (b"void t(void){1=2;}", 0, 13),
         (b"void t(void){int x;(x+1)=2;}", 0, 13),
         (b"void t(void){int a[3];a=0;}", 0, 13),
@@ -292,19 +250,12 @@ fn only_lvalues_are_assigned(rt: HostRuntime) -> Result<(), Fail> {
         (b"void t(void){*t=0;}", 0, 13),
         (b"void t(void){(1?1:2)=1;}", 0, 13),
     ];
-    for (source, item, rule) in rows {
-        assert_eq!(rt;
-            verdict_of(rt.alloc(), source)?,
-            Verdict::of(item, rule),
-            "of {source:?}"
-        );
-    }
-    Ok(())
+    expect_all(&rt, rt.alloc(), &ROWS)
 }
 
 #[test]
 fn conditions_are_scalars(rt: HostRuntime) -> Result<(), Fail> {
-    let rows: [(&[u8], u32, u8); 15] = [
+    const ROWS: [Row; 15] = [
         (b"void t(void){if(t())1;}", 0, 17),
         (b"void t(void){while(t())1;}", 0, 17),
         (b"void t(void){do 1;while(t());}", 0, 17),
@@ -321,12 +272,5 @@ fn conditions_are_scalars(rt: HostRuntime) -> Result<(), Fail> {
         (b"struct s{int a;};struct s x;void t(void){x?1:2;}", 2, 17),
         (b"void t(void){int a[2];if(a);!a;\"a\"?1:2;}", 0, 0),
     ];
-    for (source, item, rule) in rows {
-        assert_eq!(rt;
-            verdict_of(rt.alloc(), source)?,
-            Verdict::of(item, rule),
-            "of {source:?}"
-        );
-    }
-    Ok(())
+    expect_all(&rt, rt.alloc(), &ROWS)
 }

@@ -1,11 +1,11 @@
 //! Names: what is declared, twice or not at all, used and not defined.
 
-use crate::source::{Verdict, verdict_of};
+use crate::source::{Row, expect_all};
 use std::test::Fail;
 
 #[test]
 fn names_are_declared_before_they_are_used(rt: HostRuntime) -> Result<(), Fail> {
-    let rows: [(&[u8], u32, u8); 25] = [
+    const ROWS: [Row; 25] = [
         (b"void t(void){x;}", 0, 1),
         (b"void t(void){int x;x;}", 0, 0),
         (b"int x=x;", 0, 16),
@@ -32,19 +32,12 @@ fn names_are_declared_before_they_are_used(rt: HostRuntime) -> Result<(), Fail> 
         (b"void t(void){int x=x;}", 0, 0),
         (b"int f(void){return f();}", 0, 0),
     ];
-    for (source, item, rule) in rows {
-        assert_eq!(rt;
-            verdict_of(rt.alloc(), source)?,
-            Verdict::of(item, rule),
-            "of {source:?}"
-        );
-    }
-    Ok(())
+    expect_all(&rt, rt.alloc(), &ROWS)
 }
 
 #[test]
 fn a_scope_has_a_name_once(rt: HostRuntime) -> Result<(), Fail> {
-    let rows: [(&[u8], u32, u8); 34] = [
+    const ROWS: [Row; 34] = [
         (b"int x;int x;", 1, 2),
         (b"int x;char x;", 1, 2),
         (b"int x;void x(void);", 1, 2),
@@ -84,19 +77,12 @@ fn a_scope_has_a_name_once(rt: HostRuntime) -> Result<(), Fail> {
         (b"void t(void){void print(int);}", 0, 0),
         (b"typedef void fn(int);fn print;", 0, 0),
     ];
-    for (source, item, rule) in rows {
-        assert_eq!(rt;
-            verdict_of(rt.alloc(), source)?,
-            Verdict::of(item, rule),
-            "of {source:?}"
-        );
-    }
-    Ok(())
+    expect_all(&rt, rt.alloc(), &ROWS)
 }
 
 #[test]
 fn functions_that_are_used_are_defined(rt: HostRuntime) -> Result<(), Fail> {
-    let rows: [(&[u8], u32, u8); 11] = [
+    const ROWS: [Row; 11] = [
         (b"void f(int);int g(void){f(1);return 0;}", 0, 6),
         (b"void f(int);void g(void){f(1);}void f(int n){}", 0, 0),
         (b"void f(int);", 0, 0),
@@ -117,12 +103,5 @@ fn functions_that_are_used_are_defined(rt: HostRuntime) -> Result<(), Fail> {
         ),
         (b"void t(void){int f(void);}", 0, 0),
     ];
-    for (source, item, rule) in rows {
-        assert_eq!(rt;
-            verdict_of(rt.alloc(), source)?,
-            Verdict::of(item, rule),
-            "of {source:?}"
-        );
-    }
-    Ok(())
+    expect_all(&rt, rt.alloc(), &ROWS)
 }

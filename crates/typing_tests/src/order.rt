@@ -1,12 +1,12 @@
 //! The order of rules, and what is asked of whole sources.
 
-use crate::source::{Verdict, verdict_of, verdict_of_whole};
+use crate::source::{Row, Verdict, expect, expect_all, verdict_of, verdict_of_whole};
 use std::alloc::{AllocError, Global};
 use std::test::Fail;
 
 #[test]
 fn the_first_broken_rule_is_named(rt: HostRuntime) -> Result<(), Fail> {
-    let rows: [(&[u8], u32, u8); 35] = [
+    const ROWS: [Row; 35] = [
         (b"int a[1]={1,nowhere};", 0, 1),
         (b"int x;int x2[y];", 1, 1),
         (b"void t(int n,int a[n()]);", 0, 10),
@@ -47,19 +47,12 @@ fn the_first_broken_rule_is_named(rt: HostRuntime) -> Result<(), Fail> {
         (b"int n;int a[n][0];", 1, 16),
         (b"int n;int a[0][n];", 1, 3),
     ];
-    for (source, item, rule) in rows {
-        assert_eq!(rt;
-            verdict_of(rt.alloc(), source)?,
-            Verdict::of(item, rule),
-            "of {source:?}"
-        );
-    }
-    Ok(())
+    expect_all(&rt, rt.alloc(), &ROWS)
 }
 
 #[test]
 fn a_source_has_a_main(rt: HostRuntime) -> Result<(), Fail> {
-    let rows: [(&[u8], u32, u8); 9] = [
+    const ROWS: [Row; 9] = [
         (b"", 0, 5),
         (b"int x;", 1, 5),
         (b"int main(void);", 1, 5),
@@ -70,12 +63,9 @@ fn a_source_has_a_main(rt: HostRuntime) -> Result<(), Fail> {
         (b"void f(void);int main(void){f();return 0;}", 0, 6),
         (b"void f(void);int x;void t(void){f();}", 0, 6),
     ];
-    for (source, item, rule) in rows {
-        assert_eq!(rt;
-            verdict_of_whole(rt.alloc(), source)?,
-            Verdict::of(item, rule),
-            "of {source:?}"
-        );
+    for (source, item, rule) in &ROWS {
+        let found = verdict_of_whole(rt.alloc(), source)?;
+        expect(&rt, source, found, Verdict::of(*item, *rule));
     }
     Ok(())
 }
@@ -90,18 +80,17 @@ fn starred(alloc: Global, stars: u32) -> Result<Vec<u8>, AllocError> {
     Ok(source)
 }
 
+/// What is answered of a pointer of so many stars.
+fn verdict_of_starred(alloc: Global, stars: u32) -> Result<Verdict, Fail> {
+    verdict_of_whole(alloc, starred(alloc, stars)?.as_slice())
+}
+
 #[test]
 fn a_thousand_parts_are_allowed(rt: HostRuntime) -> Result<(), Fail> {
-    let source = starred(rt.alloc(), 999)?;
-    assert_eq!(rt;
-        verdict_of_whole(rt.alloc(), source.as_slice())?,
-        Verdict::Refused(1, 5)
-    );
-    let longer = starred(rt.alloc(), 1_000)?;
-    assert_eq!(rt;
-        verdict_of_whole(rt.alloc(), longer.as_slice())?,
-        Verdict::Refused(0, 3)
-    );
+    let found = verdict_of_starred(rt.alloc(), 999)?;
+    assert!(rt; found == Verdict::Refused(1, 5));
+    let longer = verdict_of_starred(rt.alloc(), 1_000)?;
+    assert!(rt; longer == Verdict::Refused(0, 3));
     Ok(())
 }
 
@@ -115,18 +104,17 @@ fn tagged(alloc: Global, tags: u32) -> Result<Vec<u8>, AllocError> {
     Ok(source)
 }
 
+/// What is answered of so many structs, with a `main` behind them.
+fn verdict_of_tagged(alloc: Global, tags: u32) -> Result<Verdict, Fail> {
+    verdict_of(alloc, tagged(alloc, tags)?.as_slice())
+}
+
 #[test]
 fn a_thousand_and_24_tags_are_allowed(rt: HostRuntime) -> Result<(), Fail> {
-    let source = tagged(rt.alloc(), 1_024)?;
-    assert_eq!(rt;
-        verdict_of(rt.alloc(), source.as_slice())?,
-        Verdict::Accepted
-    );
-    let longer = tagged(rt.alloc(), 1_025)?;
-    assert_eq!(rt;
-        verdict_of(rt.alloc(), longer.as_slice())?,
-        Verdict::Refused(1_024, 4)
-    );
+    let found = verdict_of_tagged(rt.alloc(), 1_024)?;
+    assert!(rt; found == Verdict::Accepted);
+    let more = verdict_of_tagged(rt.alloc(), 1_025)?;
+    assert!(rt; more == Verdict::Refused(1_024, 4));
     Ok(())
 }
 
@@ -140,17 +128,16 @@ fn filled(alloc: Global, bytes: u32) -> Result<Vec<u8>, AllocError> {
     Ok(source)
 }
 
+/// What is answered of a string of so many bytes that gives its array's bound.
+fn verdict_of_filled(alloc: Global, bytes: u32) -> Result<Verdict, Fail> {
+    verdict_of(alloc, filled(alloc, bytes)?.as_slice())
+}
+
 #[test]
 fn a_string_gives_a_bound_of_65536(rt: HostRuntime) -> Result<(), Fail> {
-    let source = filled(rt.alloc(), 65_535)?;
-    assert_eq!(rt;
-        verdict_of(rt.alloc(), source.as_slice())?,
-        Verdict::Accepted
-    );
-    let longer = filled(rt.alloc(), 65_536)?;
-    assert_eq!(rt;
-        verdict_of(rt.alloc(), longer.as_slice())?,
-        Verdict::Refused(0, 3)
-    );
+    let found = verdict_of_filled(rt.alloc(), 65_535)?;
+    assert!(rt; found == Verdict::Accepted);
+    let longer = verdict_of_filled(rt.alloc(), 65_536)?;
+    assert!(rt; longer == Verdict::Refused(0, 3));
     Ok(())
 }

@@ -4,6 +4,7 @@ use c_parser::parse;
 use c_tokens::lex;
 use c_typing::{CheckRefusal, check};
 use std::alloc::Global;
+use std::process::Abort;
 use std::test::Fail;
 
 /// What is answered of a source that the grammar has.
@@ -51,4 +52,21 @@ pub(crate) fn verdict_of_whole(alloc: Global, source: &[u8]) -> Result<Verdict, 
         Err(CheckRefusal::Rule { item, rule }) => Verdict::Refused(item, rule),
         Err(CheckRefusal::Memory) => Verdict::NoMemory,
     })
+}
+
+/// A source, and the item and the number of the first rule that is broken, or 0 where none is.
+pub(crate) type Row = (&'static [u8], u32, u8);
+
+/// What was found of a source is what is wanted.
+pub(crate) fn expect(rt: &impl Abort, source: &[u8], found: Verdict, want: Verdict) {
+    assert_eq!(rt; found, want, "of {source:?}");
+}
+
+/// Each source, with `int main(void){return 0;}` behind it, is answered so.
+pub(crate) fn expect_all(rt: &impl Abort, alloc: Global, rows: &[Row]) -> Result<(), Fail> {
+    for (source, item, rule) in rows {
+        let found = verdict_of(alloc, source)?;
+        expect(rt, source, found, Verdict::of(*item, *rule));
+    }
+    Ok(())
 }

@@ -1,11 +1,11 @@
 //! Loops, returns, initialisers and what is asked of the whole source.
 
-use crate::source::{Verdict, verdict_of};
+use crate::source::{Row, expect_all};
 use std::test::Fail;
 
 #[test]
 fn loops_are_left_inside_them(rt: HostRuntime) -> Result<(), Fail> {
-    let rows: [(&[u8], u32, u8); 9] = [
+    const ROWS: [Row; 9] = [
         (b"void t(void){break;}", 0, 14),
         (b"void t(void){continue;}", 0, 14),
         (b"void t(void){while(1){break;continue;}}", 0, 0),
@@ -20,19 +20,12 @@ fn loops_are_left_inside_them(rt: HostRuntime) -> Result<(), Fail> {
         (b"void t(void){if(1);else break;}", 0, 14),
         (b"void t(void){while(1){if(1){break;}else continue;}}", 0, 0),
     ];
-    for (source, item, rule) in rows {
-        assert_eq!(rt;
-            verdict_of(rt.alloc(), source)?,
-            Verdict::of(item, rule),
-            "of {source:?}"
-        );
-    }
-    Ok(())
+    expect_all(&rt, rt.alloc(), &ROWS)
 }
 
 #[test]
 fn returns_fit_their_function(rt: HostRuntime) -> Result<(), Fail> {
-    let rows: [(&[u8], u32, u8); 10] = [
+    const ROWS: [Row; 10] = [
         (b"void t(void){return 1;}", 0, 15),
         (b"void t(void){return t();}", 0, 15),
         (b"int f(void){return;}", 0, 15),
@@ -44,19 +37,12 @@ fn returns_fit_their_function(rt: HostRuntime) -> Result<(), Fail> {
         (b"int *f(void){while(1)return;}", 0, 15),
         (b"char f(void){return 300;}", 0, 0),
     ];
-    for (source, item, rule) in rows {
-        assert_eq!(rt;
-            verdict_of(rt.alloc(), source)?,
-            Verdict::of(item, rule),
-            "of {source:?}"
-        );
-    }
-    Ok(())
+    expect_all(&rt, rt.alloc(), &ROWS)
 }
 
 #[test]
 fn globals_begin_with_constants(rt: HostRuntime) -> Result<(), Fail> {
-    let rows: [(&[u8], u32, u8); 30] = [
+    const ROWS: [Row; 30] = [
         (b"int n;int a=n;", 1, 16),
         (b"int a=1+2*3;", 0, 0),
         (b"int a=1/0;", 0, 16),
@@ -92,19 +78,12 @@ fn globals_begin_with_constants(rt: HostRuntime) -> Result<(), Fail> {
         (b"void t(void){int n;int a[n];}", 0, 16),
         (b"int a[2];int x=(int)a;char c=(char)&a[1];", 0, 0),
     ];
-    for (source, item, rule) in rows {
-        assert_eq!(rt;
-            verdict_of(rt.alloc(), source)?,
-            Verdict::of(item, rule),
-            "of {source:?}"
-        );
-    }
-    Ok(())
+    expect_all(&rt, rt.alloc(), &ROWS)
 }
 
 #[test]
 fn initialisers_follow_their_type(rt: HostRuntime) -> Result<(), Fail> {
-    let rows: [(&[u8], u32, u8); 23] = [
+    const ROWS: [Row; 23] = [
         (b"int x={5};", 0, 18),
         (b"int a[2]={1,2,3};", 0, 18),
         (b"int a[2]={1};", 0, 0),
@@ -137,12 +116,5 @@ fn initialisers_follow_their_type(rt: HostRuntime) -> Result<(), Fail> {
             0,
         ),
     ];
-    for (source, item, rule) in rows {
-        assert_eq!(rt;
-            verdict_of(rt.alloc(), source)?,
-            Verdict::of(item, rule),
-            "of {source:?}"
-        );
-    }
-    Ok(())
+    expect_all(&rt, rt.alloc(), &ROWS)
 }

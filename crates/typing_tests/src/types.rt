@@ -1,11 +1,11 @@
 //! Types that are declared: units, bounds, parts, tags and forms.
 
-use crate::source::{Verdict, verdict_of};
+use crate::source::{Row, expect_all};
 use std::test::Fail;
 
 #[test]
 fn declared_types_have_units(rt: HostRuntime) -> Result<(), Fail> {
-    let rows: [(&[u8], u32, u8); 46] = [
+    const ROWS: [Row; 46] = [
         (b"void x;", 0, 3),
         (b"struct s;struct s x;", 1, 3),
         (b"struct s;struct s *x;", 0, 0),
@@ -57,19 +57,12 @@ fn declared_types_have_units(rt: HostRuntime) -> Result<(), Fail> {
         (b"typedef struct u t;t *x;", 0, 0),
         (b"typedef struct u t;t x;", 1, 3),
     ];
-    for (source, item, rule) in rows {
-        assert_eq!(rt;
-            verdict_of(rt.alloc(), source)?,
-            Verdict::of(item, rule),
-            "of {source:?}"
-        );
-    }
-    Ok(())
+    expect_all(&rt, rt.alloc(), &ROWS)
 }
 
 #[test]
 fn tags_and_members_are_declared_once(rt: HostRuntime) -> Result<(), Fail> {
-    let rows: [(&[u8], u32, u8); 15] = [
+    const ROWS: [Row; 15] = [
         (b"struct s{int a;};struct s{int a;};", 1, 4),
         (b"struct s{int a;int a;};", 0, 4),
         (b"struct s{int a;};struct u{int a;};", 0, 0),
@@ -86,19 +79,12 @@ fn tags_and_members_are_declared_once(rt: HostRuntime) -> Result<(), Fail> {
         (b"struct s *x;struct s{int a;};", 0, 0),
         (b"void t(void){struct s{int a;};}", 0, 4),
     ];
-    for (source, item, rule) in rows {
-        assert_eq!(rt;
-            verdict_of(rt.alloc(), source)?,
-            Verdict::of(item, rule),
-            "of {source:?}"
-        );
-    }
-    Ok(())
+    expect_all(&rt, rt.alloc(), &ROWS)
 }
 
 #[test]
 fn declarations_have_an_allowed_form(rt: HostRuntime) -> Result<(), Fail> {
-    let rows: [(&[u8], u32, u8); 26] = [
+    const ROWS: [Row; 26] = [
         (b"void f(struct s x);", 0, 18),
         (b"struct s{int a;};void f(struct s x);", 1, 18),
         (b"void f(void x);", 0, 18),
@@ -134,12 +120,5 @@ fn declarations_have_an_allowed_form(rt: HostRuntime) -> Result<(), Fail> {
         (b"void t(void){(int(*)(void)[2])0;}", 0, 18),
         (b"struct s{int a;};int f(int (*g)(struct s x));", 1, 18),
     ];
-    for (source, item, rule) in rows {
-        assert_eq!(rt;
-            verdict_of(rt.alloc(), source)?,
-            Verdict::of(item, rule),
-            "of {source:?}"
-        );
-    }
-    Ok(())
+    expect_all(&rt, rt.alloc(), &ROWS)
 }

@@ -5,7 +5,7 @@ use Want::{Items, Syntax};
 
 #[test]
 fn tells_declarations_from_refusals(rt: HostRuntime) -> Result<(), Fail> {
-    let rows: [(&[u8], Want); 40] = [
+    const ROWS: [Row; 40] = [
         // Type words.
         (b"struct s; struct s {int a; char *b, c;} x;", Items(2)),
         (b"struct {int a;} x;", Syntax(0)),
@@ -53,8 +53,5 @@ fn tells_declarations_from_refusals(rt: HostRuntime) -> Result<(), Fail> {
         (b"int a = 1, b = 2;", Items(1)),
         (b"int a = 1, b = 2,;", Syntax(0)),
     ];
-    for (source, want) in rows {
-        expect(&rt, rt.alloc(), source, want)?;
-    }
-    Ok(())
+    expect_all(&rt, rt.alloc(), &ROWS)
 }

@@ -5,7 +5,7 @@ use Want::{Items, Syntax};
 
 #[test]
 fn tells_items_from_refusals(rt: HostRuntime) -> Result<(), Fail> {
-    let rows: [(&[u8], Want); 26] = [
+    const ROWS: [Row; 26] = [
         // Whole sources.
         (b"", Items(0)),
         (b"typedef int t; t x;", Items(2)),
@@ -35,8 +35,5 @@ fn tells_items_from_refusals(rt: HostRuntime) -> Result<(), Fail> {
         (b"typedef int t; int f(t t);", Syntax(1)),
         (b"typedef int (*t)(int); t x;", Items(2)),
     ];
-    for (source, want) in rows {
-        expect(&rt, rt.alloc(), source, want)?;
-    }
-    Ok(())
+    expect_all(&rt, rt.alloc(), &ROWS)
 }

@@ -4,7 +4,7 @@ use super::*;
 
 /// What stands before, the part that opens, how often it stands, what stands inside, the part that closes, what stands
 /// behind, and whether all that is one item.
-type Row = (
+type Limit = (
     &'static [u8],
     (&'static [u8], usize, &'static [u8], &'static [u8]),
     &'static [u8],
@@ -13,7 +13,7 @@ type Row = (
 
 #[test]
 fn keeps_the_limits_of_depth_and_of_parentheses(rt: HostRuntime) -> Result<(), Fail> {
-    let rows: [Row; 20] = [
+    const ROWS: [Limit; 20] = [
         // An initialiser, unary operators and a name: two nodes besides the operators.
         (b"int x=", (b"~", 198, b"a", b""), b";", true),
         (b"int x=", (b"~", 199, b"a", b""), b";", false),
@@ -51,9 +51,8 @@ fn keeps_the_limits_of_depth_and_of_parentheses(rt: HostRuntime) -> Result<(), F
             false,
         ),
     ];
-    for (before, inside, after, is_one) in rows {
-        let source = nested(rt.alloc(), before, inside, after)?;
-        expect_one(&rt, rt.alloc(), source.as_slice(), is_one)?;
+    for (before, inside, after, is_one) in &ROWS {
+        expect_nested(&rt, rt.alloc(), before, *inside, after, *is_one)?;
     }
     Ok(())
 }

@@ -2,9 +2,26 @@
 
 use super::*;
 
+/// What stands in an item, and whether all that is one item.
+type Body = (&'static [u8], bool);
+
+/// Each of the bodies between these two makes one item, or none.
+fn expect_bodies(
+    rt: &impl Abort,
+    alloc: Global,
+    before: &[u8],
+    bodies: &[Body],
+    after: &[u8],
+) -> Result<(), Fail> {
+    for (body, is_one) in bodies {
+        expect_nested(rt, alloc, before, (body, 1, b"", b""), after, *is_one)?;
+    }
+    Ok(())
+}
+
 #[test]
 fn tells_statements_and_expressions_from_refusals(rt: HostRuntime) -> Result<(), Fail> {
-    let statements: [(&[u8], bool); 32] = [
+    const STATEMENTS: [Body; 32] = [
         (b"", true),
         (b";", true),
         (b"{}", true),
@@ -38,7 +55,7 @@ fn tells_statements_and_expressions_from_refusals(rt: HostRuntime) -> Result<(),
         (b"case 1:;", false),
         (b"switch(a){}", false),
     ];
-    let expressions: [(&[u8], bool); 76] = [
+    const EXPRESSIONS: [Body; 76] = [
         (b"a=b=c", true),
         (b"a+b=c", false),
         (b"(a+b)=c", true),
@@ -116,14 +133,6 @@ fn tells_statements_and_expressions_from_refusals(rt: HostRuntime) -> Result<(),
         (b"a)", false),
         (b"'a'", true),
     ];
-    let alloc = rt.alloc();
-    for (body, is_one) in statements {
-        let source = nested(alloc, b"int f(void){", (body, 1, b"", b""), b"}")?;
-        expect_one(&rt, alloc, source.as_slice(), is_one)?;
-    }
-    for (expression, is_one) in expressions {
-        let source = nested(alloc, b"int x=", (expression, 1, b"", b""), b";")?;
-        expect_one(&rt, alloc, source.as_slice(), is_one)?;
-    }
-    Ok(())
+    expect_bodies(&rt, rt.alloc(), b"int f(void){", &STATEMENTS, b"}")?;
+    expect_bodies(&rt, rt.alloc(), b"int x=", &EXPRESSIONS, b";")
 }

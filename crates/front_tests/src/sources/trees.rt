@@ -2,10 +2,23 @@
 
 use super::*;
 
+/// What is written of a source's tree.
+fn written(rt: &impl Abort, alloc: Global, source: &[u8]) -> Result<Vec<u8>, Fail> {
+    let unit = parsed(rt, alloc, source)??;
+    Ok(print_unit(alloc, &unit)?)
+}
+
+/// This is written of a source's tree.
+fn expect_written(rt: &impl Abort, alloc: Global, source: &[u8], want: &[u8]) -> Result<(), Fail> {
+    let text = written(rt, alloc, source)?;
+    assert!(rt; text.as_slice() == want, "of {source:?}");
+    Ok(())
+}
+
 /// Trees are told by what is written of them: parentheses stand round all that has several tokens.
 #[test]
 fn gives_the_one_tree(rt: HostRuntime) -> Result<(), Fail> {
-    let rows: [(&[u8], &[u8]); 12] = [
+    const ROWS: [(&[u8], &[u8]); 12] = [
         (b"int x=a-b-c;", b"int x = ( ( a - b ) - c ) ; "),
         (b"int x=a=b=c;", b"int x = ( a = ( b = c ) ) ; "),
         (b"int x=a?b:c?d:e;", b"int x = ( a ? b : ( c ? d : e ) ) ; "),
@@ -25,14 +38,8 @@ fn gives_the_one_tree(rt: HostRuntime) -> Result<(), Fail> {
         ),
         (b"char*s=\"\\\"'\\n\";", b"char ( * s ) = \"\\\"'\\n\" ; "),
     ];
-    let alloc = rt.alloc();
-    for (source, written) in rows {
-        let unit = parsed(&rt, alloc, source)??;
-        assert_eq!(rt;
-            print_unit(alloc, &unit)?.as_slice(),
-            written,
-            "of {source:?}"
-        );
+    for (source, want) in &ROWS {
+        expect_written(&rt, rt.alloc(), source, want)?;
     }
     Ok(())
 }
@@ -40,19 +47,11 @@ fn gives_the_one_tree(rt: HostRuntime) -> Result<(), Fail> {
 /// What is written of a tree gives the same tree, and so the same text, again.
 #[test]
 fn reads_back_what_is_written(rt: HostRuntime) -> Result<(), Fail> {
-    let source = b"void (*h)(void); void a(void){print(1);} void b(void){print(2);} \
+    const SOURCE: &[u8] = b"void (*h)(void); void a(void){print(1);} void b(void){print(2);} \
         int main(void){h=a;h();return 0;}";
-    let alloc = rt.alloc();
-    let unit = parsed(&rt, alloc, source)??;
-    let text = print_unit(alloc, &unit)?;
-    assert_eq!(rt;
-        text.as_slice(),
-        b"void ( ( * h ) ( void ) ) ; void ( a ( void ) ) { ( print ( 1 ) ) ; } \
-          void ( b ( void ) ) { ( print ( 2 ) ) ; } \
-          int ( main ( void ) ) { ( h = a ) ; ( h ( ) ) ; return 0 ; } "
-            .as_slice()
-    );
-    let again = parsed(&rt, alloc, text.as_slice())??;
-    assert_eq!(rt; print_unit(alloc, &again)?.as_slice(), text.as_slice());
-    Ok(())
+    const WRITTEN: &[u8] = b"void ( ( * h ) ( void ) ) ; void ( a ( void ) ) { ( print ( 1 ) ) ; } \
+        void ( b ( void ) ) { ( print ( 2 ) ) ; } \
+        int ( main ( void ) ) { ( h = a ) ; ( h ( ) ) ; return 0 ; } ";
+    expect_written(&rt, rt.alloc(), SOURCE, WRITTEN)?;
+    expect_written(&rt, rt.alloc(), WRITTEN, WRITTEN)
 }

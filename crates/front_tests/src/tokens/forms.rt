@@ -4,7 +4,7 @@ use super::*;
 
 #[test]
 fn gives_the_kind_of_each_form(rt: HostRuntime) -> Result<(), Fail> {
-    let rows: [(&[u8], &[Want]); 17] = [
+    const ROWS: [(&[u8], &[Want]); 17] = [
         // Words and numbers.
         (
             b"int intx _int Int x9_ i",
@@ -114,7 +114,7 @@ fn gives_the_kind_of_each_form(rt: HostRuntime) -> Result<(), Fail> {
             ],
         ),
     ];
-    for (source, wanted) in rows {
+    for (source, wanted) in &ROWS {
         expect_kinds(&rt, rt.alloc(), source, wanted)?;
     }
     Ok(())

@@ -2,27 +2,25 @@
 
 use super::*;
 
+/// A token, the place that it begins at, the place behind it, and its line.
+type Place = (Want, u32, u32, u32);
+
+/// Whether the token is this one, and stands there.
+fn stands_there(token: &Token, (want, from, to, line): &Place) -> bool {
+    is_wanted(&token.kind, want) && token.from == *from && token.to == *to && token.line == *line
+}
+
 /// The text has just these tokens, each from its place to its place and on its line.
-fn expect_places(
-    rt: &impl Abort,
-    found: &[Token],
-    wanted: &[(Want, u32, u32, u32)],
-    source: &[u8],
-) {
-    assert_eq!(rt; found.len(), wanted.len(), "in {source:?}");
-    for (token, (want, from, to, line)) in found.iter().zip(wanted) {
-        assert!(rt; is_wanted(&token.kind, want), "in {source:?}");
-        assert_eq!(rt;
-            (token.from, token.to, token.line),
-            (*from, *to, *line),
-            "in {source:?}"
-        );
+fn expect_places(rt: &impl Abort, found: &[Token], wanted: &[Place], source: &[u8]) {
+    assert!(rt; found.len() == wanted.len(), "in {source:?}");
+    for (token, place) in found.iter().zip(wanted) {
+        assert!(rt; stands_there(token, place), "in {source:?}");
     }
 }
 
 #[test]
 fn gives_the_longest_tokens_with_their_places(rt: HostRuntime) -> Result<(), Fail> {
-    let rows: [(&[u8], &[(Want, u32, u32, u32)]); 6] = [
+    const ROWS: [(&[u8], &[Place]); 6] = [
         (
             b"a+++b",
             &[
@@ -59,7 +57,7 @@ fn gives_the_longest_tokens_with_their_places(rt: HostRuntime) -> Result<(), Fai
         (b"", &[]),
         (b" \t\r\n//", &[]),
     ];
-    for (source, wanted) in rows {
+    for (source, wanted) in &ROWS {
         let tokens = lexed(&rt, rt.alloc(), source)?;
         expect_places(&rt, tokens.as_slice(), wanted, source);
     }

@@ -6,12 +6,12 @@ use c_tokens::LexRefusal;
 /// The text is refused so.
 fn expect_refusal(rt: &impl Abort, alloc: Global, source: &[u8], refusal: LexRefusal) {
     let found = lexed(rt, alloc, source).err();
-    assert_eq!(rt; found, Some(refusal), "in {source:?}");
+    assert!(rt; found == Some(refusal), "in {source:?}");
 }
 
 #[test]
 fn refuses_the_first_bad_place(rt: HostRuntime) {
-    let rows: [(&[u8], LexRefusal); 34] = [
+    const ROWS: [(&[u8], LexRefusal); 34] = [
         (b"\n08", LexRefusal::Number { line: 2 }),
         (b"\"a", LexRefusal::Text { line: 1 }),
         (b"a@", LexRefusal::Byte { line: 1 }),
@@ -47,7 +47,7 @@ fn refuses_the_first_bad_place(rt: HostRuntime) {
         (b"a\n\xc8 08 '", LexRefusal::Byte { line: 2 }),
         (b"/\\", LexRefusal::Byte { line: 1 }),
     ];
-    for (source, refusal) in rows {
-        expect_refusal(&rt, rt.alloc(), source, refusal);
+    for (source, refusal) in &ROWS {
+        expect_refusal(&rt, rt.alloc(), source, *refusal);
     }
 }

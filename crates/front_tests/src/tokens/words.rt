@@ -4,7 +4,7 @@ use super::*;
 
 #[test]
 fn gives_each_keyword_and_each_mark(rt: HostRuntime) -> Result<(), Fail> {
-    let keywords: [(&[u8], Keyword); 32] = [
+    const KEYWORDS: [(&[u8], Keyword); 32] = [
         (b"int", Keyword::Int),
         (b"char", Keyword::Char),
         (b"void", Keyword::Void),
@@ -38,7 +38,7 @@ fn gives_each_keyword_and_each_mark(rt: HostRuntime) -> Result<(), Fail> {
         (b"unsigned", Keyword::Unsigned),
         (b"volatile", Keyword::Volatile),
     ];
-    let marks: [(&[u8], Mark); 45] = [
+    const MARKS: [(&[u8], Mark); 45] = [
         (b"(", Mark::LeftParenthesis),
         (b")", Mark::RightParenthesis),
         (b"{", Mark::LeftBrace),
@@ -85,13 +85,13 @@ fn gives_each_keyword_and_each_mark(rt: HostRuntime) -> Result<(), Fail> {
         (b"<<=", Mark::ShiftLeftAssign),
         (b">>=", Mark::ShiftRightAssign),
     ];
-    for (source, keyword) in keywords {
-        expect_kinds(&rt, rt.alloc(), source, &[Want::Word(keyword)])?;
-        assert_eq!(rt; keyword.text(), source);
+    for (source, keyword) in &KEYWORDS {
+        assert!(rt; keyword.text() == *source);
+        expect_kinds(&rt, rt.alloc(), source, &[Want::Word(*keyword)])?;
     }
-    for (source, mark) in marks {
-        expect_kinds(&rt, rt.alloc(), source, &[Want::Mark(mark)])?;
-        assert_eq!(rt; mark.text(), source);
+    for (source, mark) in &MARKS {
+        assert!(rt; mark.text() == *source);
+        expect_kinds(&rt, rt.alloc(), source, &[Want::Mark(*mark)])?;
     }
     Ok(())
 }
