@@ -11,6 +11,14 @@ type Limit = (
     bool,
 );
 
+/// Each row is one item, or none, as it says.
+fn expect_limits(rt: &impl Abort, alloc: Global, limits: &[Limit]) -> Result<(), Fail> {
+    for (before, inside, after, is_one) in limits {
+        expect_nested(rt, alloc, before, *inside, after, *is_one)?;
+    }
+    Ok(())
+}
+
 #[test]
 fn keeps_the_limits_of_depth_and_of_parentheses(rt: HostRuntime) -> Result<(), Fail> {
     const ROWS: [Limit; 20] = [
@@ -51,8 +59,5 @@ fn keeps_the_limits_of_depth_and_of_parentheses(rt: HostRuntime) -> Result<(), F
             false,
         ),
     ];
-    for (before, inside, after, is_one) in &ROWS {
-        expect_nested(&rt, rt.alloc(), before, *inside, after, *is_one)?;
-    }
-    Ok(())
+    expect_limits(&rt, rt.alloc(), &ROWS)
 }
