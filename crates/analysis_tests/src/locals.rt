@@ -1,5 +1,8 @@
 //! Safe frame locals, in bodies built by hand.
 
+ghost use Rattle.std.specs.Prelude.{◌<◌, length};
+ghost use Rattle.core_ir.specs.Valid.{IsValid};
+
 use crate::support::ty;
 use c_types::{FnTy, StructTable, Ty};
 use core_ir::{Function, Instr, InstrList, Local, Program, valid};
@@ -155,17 +158,31 @@ fn yes(answers: &[bool]) -> usize {
     count
 }
 
+/// How many locals of function 0 are safe, and how many instructions are at such.
+fn counts(alloc: Global, program: &Program) -> Result<(usize, usize), AllocError>
+    requires valid { IsValid program.now }
+    requires some { 0 < length program.now.functions }
+{
+    let answers = safe(alloc, program, 0)?;
+    let there = at_safe(alloc, program, 0, answers.as_slice())?;
+    Ok((yes(answers.as_slice()), yes(there.as_slice())))
+}
+
+/// The same of the program with this use.
+fn counts_of(alloc: Global, case: Use) -> Result<(usize, usize), Fail> {
+    let program = program(alloc, case)?;
+    if !valid(&program) || program.functions.is_empty() {
+        return Err(Fail::from("the program isn't valid"));
+    }
+    Ok(counts(alloc, &program)?)
+}
+
 #[test]
 fn locals_are_safe_by_their_uses(rt: HostRuntime) -> Result<(), Fail> {
     for (case, is_safe, at) in &USES {
-        let program = program(rt.alloc(), *case)?;
-        if !valid(&program) || program.functions.is_empty() {
-            return Err(Fail::from("the program isn't valid"));
-        }
-        let answers = safe(rt.alloc(), &program, 0)?;
-        assert_eq!(rt; yes(answers.as_slice()), usize::from(*is_safe));
-        let there = at_safe(rt.alloc(), &program, 0, answers.as_slice())?;
-        assert_eq!(rt; yes(there.as_slice()), *at);
+        let (safe, there) = counts_of(rt.alloc(), *case)?;
+        assert_eq!(rt; safe, usize::from(*is_safe));
+        assert_eq!(rt; there, *at);
     }
     Ok(())
 }

@@ -1,15 +1,58 @@
 //! Reports on sources.
 
+ghost use Rattle.std.specs.Prelude.{◌≡◌};
+ghost use Rattle.core_ir.specs.Valid.{IsValid};
+ghost use Rattle.elab_pieces.specs.Program.{program_of};
+
 use c_parser::parse;
-use c_tokens::lex;
+use c_tokens::{Tokens, lex};
+use c_tree::Unit;
+use c_typed::Typed;
 use c_typing::check;
 use code_report::report;
-use core_ir::valid;
+use core_ir::{Program, valid};
 use elab::elaborate;
 use safe_locals::safe_all;
 use sensitivity::classes;
 use std::alloc::Global;
 use std::test::Fail;
+
+/// The report on a source whose program is this one, which is valid.
+fn report_on(alloc: Global, typed: &Typed, program: &Program) -> Result<Vec<u8>, Fail>
+    requires valid { IsValid program.now }
+    requires program { program.now ≡ program_of typed.now }
+{
+    let classes = classes(alloc, &program.structs)?;
+    let safe = safe_all(alloc, program)?;
+    Ok(report(alloc, typed, program, &classes, &safe)?)
+}
+
+/// The report on a typed source.
+fn report_of_typed(alloc: Global, typed: &Typed) -> Result<Vec<u8>, Fail> {
+    let program = elaborate(alloc, typed)?;
+    if !valid(&program) {
+        return Err(Fail::from("the program isn't valid"));
+    }
+    report_on(alloc, typed, &program)
+}
+
+/// The report on a source that was parsed.
+fn report_of_unit(alloc: Global, unit: &Unit) -> Result<Vec<u8>, Fail> {
+    if unit.items.len() > 100_000 {
+        return Err(Fail::from("many items"));
+    }
+    let typed = check(alloc, unit)?;
+    report_of_typed(alloc, &typed)
+}
+
+/// The report on a source that was cut into tokens.
+fn report_of_tokens(alloc: Global, tokens: &Tokens) -> Result<Vec<u8>, Fail> {
+    if tokens.len() > 100_000 {
+        return Err(Fail::from("many tokens"));
+    }
+    let unit = parse(alloc, tokens)?;
+    report_of_unit(alloc, &unit)
+}
 
 /// The report on a source.
 fn report_of(alloc: Global, source: &[u8]) -> Result<Vec<u8>, Fail> {
@@ -17,21 +60,7 @@ fn report_of(alloc: Global, source: &[u8]) -> Result<Vec<u8>, Fail> {
         return Err(Fail::from("a long source"));
     }
     let tokens = lex(alloc, source)?;
-    if tokens.len() > 100_000 {
-        return Err(Fail::from("many tokens"));
-    }
-    let unit = parse(alloc, &tokens)?;
-    if unit.items.len() > 100_000 {
-        return Err(Fail::from("many items"));
-    }
-    let typed = check(alloc, &unit)?;
-    let program = elaborate(alloc, &typed)?;
-    if !valid(&program) {
-        return Err(Fail::from("the program isn't valid"));
-    }
-    let classes = classes(alloc, &program.structs)?;
-    let safe = safe_all(alloc, &program)?;
-    Ok(report(alloc, &typed, &program, &classes, &safe)?)
+    report_of_tokens(alloc, &tokens)
 }
 
 /// Sources, and their reports.
