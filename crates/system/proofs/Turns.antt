@@ -1,16 +1,13 @@
 -- What a thread does in its turn is what the turn does to the state.
 use Rattle.std.proofs.Common.{◌≡◌, ℕ, Bool, true, false, List, [], ◌∷◌, ◌++◌, length, map, refl, sym, subst, ap, ◌∙◌, Some, slice_get, slice_set}
 use Rattle.std.proofs.lemmas.List.{append-nil}
-use Rattle.meaning.specs.Action.{Fits}
 use Rattle.meaning.specs.declared.action.Action.{Action}
-use Rattle.meaning.specs.declared.action.Action.TheVariants as act
 use Rattle.meaning.specs.declared.action.Reply.{Reply}
-use Rattle.meaning.specs.declared.action.Reply.TheVariants as reply
 use Rattle.meaning.specs.declared.note.Note.{Note}
 use Rattle.meaning.specs.declared.record.Record.{Record}
-use Rattle.meaning.specs.declared.record.Record.TheVariants.{Noted}
+use Rattle.meaning.specs.declared.record.Record.TheVariants.{Noted, Steps}
 use Rattle.meaning.specs.declared.value.Value.{Value}
-use Rattle.meaning.specs.Records.{added_all, did, or_one_step}
+use Rattle.meaning.specs.Records.{added, added_all, did, or_one_step}
 use Rattle.machine.specs.declared.code.Code.{Code}
 use Rattle.machine.specs.Frames.{Thread, is_live}
 use Rattle.machine.specs.Protected.{next, resume}
@@ -18,7 +15,8 @@ use Rattle.machine.specs.Run.{cuts, turns}
 use Rattle.machine.specs.Store.{remembered}
 use Rattle.machine.specs.Trace.{traced, turn_records}
 use Rattle.region_seq.specs.Bounded.{behind}
-use Rattle.thread_engine.specs.Sound.{SlotsAreThere}
+use Rattle.thread_engine.specs.Quiet.{IsQuietTurn, TakesQuietTurn}
+use Rattle.machine.specs.Threads.{Told}
 use Rattle.system.specs.declared.memories.Memories.{Memories}
 use Rattle.system.proofs.SeatLemmas.{set_same}
 use Rattle.system.specs.inner.Seats.{answer_of, is_running, setting_with, state_with, told_of}
@@ -59,41 +57,54 @@ pub told_records : (code : Code) (t n : ℕ) (thread : Thread Value) (m : Memori
 told_records code t n thread m begun before records action reply notes same asked answered told begins is =
     rw (is, begins, told, answered, asked, same) refl
 
--- ---- a turn in which the thread asks for nothing
+-- ---- a turn that asks for nothing and tells nothing
 
-pub own_fits : (action : Action) → action ≡ act.Own → Fits action reply.Nothing
-own_fits action own = rw own tt
+-- what it is told, where nothing answers
+quiet_told : (code : Code) (t : ℕ) (thread thread' : Thread Value) (m : Memories)
+    → IsQuietTurn code t thread thread'
+    → told_of code t thread m ≡ record { thread = thread'; notes = [] }
+quiet_told code t thread thread' m quiet =
+    ap (λ (a : Action). resume code t thread a (answer_of m a)) quiet.asks ∙ quiet.goes
 
-pub own_slots : (action : Action) → action ≡ act.Own → SlotsAreThere action reply.Nothing
-own_slots action own = rw own tt
+module _ (code : Code) (t n : ℕ) (thread thread' : Thread Value) (m : Memories) (taken : Bool) where
+  quiet : taken ≡ true → n ≡ t → TakesQuietTurn taken code n thread thread' → IsQuietTurn code t thread thread'
+  quiet is same turn =
+      subst (λ (k : ℕ). IsQuietTurn code k thread thread') same
+      (subst (λ (b : Bool). TakesQuietTurn b code n thread thread') is turn)
 
-pub own_records : (code : Code) (t n : ℕ) (thread : Thread Value) (before records : List Record) (notes : List Note)
-    → n ≡ t
-    → next code n thread ≡ act.Own
-    → notes ≡ (resume code n thread (next code n thread) reply.Nothing).notes
-    → records ≡ added_all before (or_one_step t (did t act.Own reply.Nothing ++ map (Noted t) notes))
-    → records ≡ added_all before (turn_records t act.Own reply.Nothing (resume code t thread act.Own reply.Nothing).notes)
-own_records code t n thread before records notes same own told is = rw (is, told, own, same) refl
+  pub quiet_thread :
+      taken ≡ true
+      → n ≡ t
+      → TakesQuietTurn taken code n thread thread'
+      → thread' ≡ (told_of code t thread m).thread
+  quiet_thread is same turn =
+      sym (ap (λ (told : Told Value). told.thread) (quiet_told code t thread thread' m (quiet is same turn)))
 
--- it is told what it is told where nothing answers
-pub own_told : (code : Code) (t n : ℕ) (thread thread' : Thread Value) (m : Memories)
-    → n ≡ t
-    → act.Own ≡ next code n thread
-    → thread' ≡ (resume code t thread act.Own reply.Nothing).thread
-    → thread' ≡ (told_of code t thread m).thread
-own_told code t n thread thread' m same own is =
-    let asked : next code t thread ≡ act.Own = subst (λ (k : ℕ). next code k thread ≡ act.Own) same (sym own) in
-    rw (is, asked) refl
+  pub quiet_region :
+      taken ≡ true
+      → n ≡ t
+      → TakesQuietTurn taken code n thread thread'
+      → m.region ≡ behind m.region (next code t thread)
+  quiet_region is same turn = rw ((quiet is same turn).asks) refl
 
-pub own_recorded : (code : Code) (t n : ℕ) (thread : Thread Value) (m : Memories) (before records : List Record)
-    → n ≡ t
-    → act.Own ≡ next code n thread
-    → records ≡ added_all before (turn_records t act.Own reply.Nothing (resume code t thread act.Own reply.Nothing).notes)
-    → records ≡ added_all before
-    (turn_records t (next code t thread) (answer_of m (next code t thread)) (told_of code t thread m).notes)
-own_recorded code t n thread m before records same own is =
-    let asked : next code t thread ≡ act.Own = subst (λ (k : ℕ). next code k thread ≡ act.Own) same (sym own) in
-    rw (is, asked) refl
+  pub quiet_plain :
+      taken ≡ true
+      → n ≡ t
+      → TakesQuietTurn taken code n thread thread'
+      → m.plain ≡ remembered m.plain (next code t thread)
+  quiet_plain is same turn = rw ((quiet is same turn).asks) refl
+
+  pub quiet_records :
+      (before records : List Record)
+      → taken ≡ true
+      → n ≡ t
+      → TakesQuietTurn taken code n thread thread'
+      → records ≡ added before (Steps t 1)
+      → records ≡ added_all before
+      (turn_records t (next code t thread) (answer_of m (next code t thread)) (told_of code t thread m).notes)
+  quiet_records before records is same turn steps =
+      let q = quiet is same turn in
+      rw (steps, quiet_told code t thread thread' m q, q.asks) refl
 
 -- a turn of a thread that isn't live has no records
 pub unrecorded : (code : Code) (t : ℕ) (thread : Thread Value) (m : Memories) (threads : List (Thread Value)) (records : List Record)

@@ -28,20 +28,6 @@ pub fn record_turn(trace: &mut Trace, t: u8, action: Action, reply: Reply, notes
     }
 }
 
-/// Records a turn of a thread that asked for nothing: its notes, and a step where there are none.
-pub fn record_own_turn(trace: &mut Trace, t: u8, notes: &[Note])
-    requires thread { t < 16 }
-    requires spare { length notes.now + 1 ≤ trace.old.spare }
-    ensures records { trace.new.records ≡ added_all trace.old.records (or_one_step t (map (Record.Noted t) notes.now)) }
-    ensures inputs { trace.new.inputs ≡ trace.old.inputs }
-{
-    if notes.is_empty() {
-        trace.push(Record::Steps { t, n: 1 });
-    } else {
-        record_notes(trace, t, notes);
-    }
-}
-
 /// What a turn did, unless that is nothing or a halt.
 fn did(t: u8, action: Action, reply: Reply) -> Option<Record>
     requires thread { t < 16 }

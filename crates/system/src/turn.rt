@@ -16,9 +16,9 @@ ghost use Rattle.system.specs.State.{IsSeat, thread_of};
 ghost use Rattle.system.specs.inner.Seats.{Keeps, answer_of, is_running, setting_with, state_with, told_of};
 
 use super::memories::Memories;
-use super::record::{record_own_turn, record_turn};
+use super::record::record_turn;
 use machine::Code;
-use meaning::{Action, Note, Record, Reply, Stop};
+use meaning::{Note, Record, Stop};
 use std::alloc::AllocError;
 use thread_engine::{Notes, Thread};
 use trace::Trace;
@@ -31,7 +31,7 @@ const MOST_RECORDS: usize = 11;
 /// # Errors
 ///
 /// `AllocError`. The thread, the inputs and the trace are as before.
-#[tactic(auto, using(crate::proofs::Turns::own_told, crate::proofs::Turns::own_recorded))]
+#[tactic(auto, using(crate::proofs::AnswersFit::answers_fit, crate::proofs::AnswersFit::slots_are_there, crate::proofs::Turns::told_records, crate::proofs::Turns::quiet_thread, crate::proofs::Turns::quiet_region, crate::proofs::Turns::quiet_plain, crate::proofs::Turns::quiet_records))]
 fn take_turn(
     code: &Code,
     t: u8,
@@ -59,79 +59,11 @@ fn take_turn(
     ensures inputs { trace.new.inputs ≡ trace.old.inputs }
 {
     trace.reserve(MOST_RECORDS)?;
-    match thread.next(code) {
-        Action::Own => own_turn(code, t, thread, notes, trace),
-        action => asking_turn(code, t, thread, action, memories, notes, trace),
+    if thread.take_quiet_turn(code) {
+        trace.push(Record::Steps { t, n: 1 });
+        return Ok(());
     }
-}
-
-/// A turn of live thread `t` in which it asks for nothing, as in most turns: neither an action nor a reply is carried.
-///
-/// # Errors
-///
-/// `AllocError`. The thread and the trace are as before.
-#[tactic(auto, using(crate::proofs::Turns::own_records, crate::proofs::Turns::own_fits, crate::proofs::Turns::own_slots))]
-fn own_turn(
-    code: &Code,
-    t: u8,
-    thread: &mut Thread,
-    notes: &mut Notes,
-    trace: &mut Trace,
-) -> Result<(), AllocError>
-    requires valid { ValidCode code.now }
-    requires sound { IsSound code.now thread.old.thread }
-    requires number { thread.old.number ≡ t }
-    requires few { t < 16 }
-    requires own { next code.now thread.old.number thread.old.thread ≡ act.Own }
-    requires spare { 11 ≤ trace.old.spare }
-    ensures thread { OnOk result (thread.new.thread ≡ (resume code.now t thread.old.thread act.Own reply.Nothing).thread) }
-    ensures number { thread.new.number ≡ t }
-    ensures sound { IsSound code.now thread.new.thread }
-    ensures records { OnOk result (trace.new.records ≡ added_all trace.old.records
-        (turn_records t act.Own reply.Nothing (resume code.now t thread.old.thread act.Own reply.Nothing).notes)) }
-    ensures err { OnErr result (trace.new.records ≡ trace.old.records) }
-    ensures inputs { trace.new.inputs ≡ trace.old.inputs }
-{
-    thread.resume_into(code, Reply::Nothing, notes)?;
-    record_own_turn(trace, t, notes.as_slice());
-    Ok(())
-}
-
-/// A turn of live thread `t`, which asks for this action.
-///
-/// # Errors
-///
-/// `AllocError`. The thread, the inputs and the trace are as before.
-#[tactic(auto, using(crate::proofs::AnswersFit::answers_fit, crate::proofs::AnswersFit::slots_are_there, crate::proofs::Turns::told_records))]
-fn asking_turn(
-    code: &Code,
-    t: u8,
-    thread: &mut Thread,
-    action: Action,
-    memories: &mut Memories,
-    notes: &mut Notes,
-    trace: &mut Trace,
-) -> Result<(), AllocError>
-    requires valid { ValidCode code.now }
-    requires sound { IsSound code.now thread.old.thread }
-    requires number { thread.old.number ≡ t }
-    requires few { t < 16 }
-    requires asked { action ≡ next code.now thread.old.number thread.old.thread }
-    requires slots { memories.old.region.slots ≤ most_slots }
-    requires spare { 11 ≤ trace.old.spare }
-    ensures thread { OnOk result (thread.new.thread ≡ (told_of code.now t thread.old.thread memories.old).thread) }
-    ensures number { thread.new.number ≡ t }
-    ensures sound { IsSound code.now thread.new.thread }
-    ensures region { OnOk result (memories.new.region ≡ behind memories.old.region (next code.now t thread.old.thread)) }
-    ensures plain { OnOk result (memories.new.plain ≡ remembered memories.old.plain (next code.now t thread.old.thread)) }
-    ensures records { OnOk result (trace.new.records ≡ added_all trace.old.records
-        (turn_records t (next code.now t thread.old.thread)
-        (answer_of memories.old (next code.now t thread.old.thread))
-        (told_of code.now t thread.old.thread memories.old).notes)) }
-    ensures err { OnErr result (trace.new.records ≡ trace.old.records) }
-    ensures kept { Keeps memories.old memories.new }
-    ensures inputs { trace.new.inputs ≡ trace.old.inputs }
-{
+    let action = thread.next(code);
     let reply = memories.answer(action)?;
     thread.resume_into(code, reply, notes)?;
     record_turn(trace, t, action, reply, notes.as_slice());

@@ -146,7 +146,7 @@ allocated_low n (reply.Flag b) fits there = tt
 allocated_low n (reply.Thread m) fits there = tt
 
 -- the addresses that an instruction of valid code makes are below 2^32
-addresses_fit :
+pub addresses_fit :
     (code : Code) (c : CodeFunction) (t : ℕ) (top : Frame Value) (below : List (Frame Value)) (answer : Reply) (i : CodePlace)
     → IsValidCodeFunction code c
     → IfSome top.object (λ id. id ≤ most_slots)

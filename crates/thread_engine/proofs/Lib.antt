@@ -4,4 +4,5 @@ pub mod Slots
 pub mod Valid
 pub mod Effects
 pub mod Preserved
+pub mod QuietTurns
 pub mod Resumed

@@ -1,3 +1,4 @@
 pub mod State
 pub mod Sound
+pub mod Quiet
 pub mod inner

@@ -1,3 +1,4 @@
 pub mod Frames
+pub mod Quiet
 pub mod Turns
 pub mod Views

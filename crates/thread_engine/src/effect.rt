@@ -310,7 +310,7 @@ impl Frame {
     }
 
     /// The address of a local of its object.
-    fn local_address(&self, offset: u32, units: u32, kept: bool) -> Value
+    pub(crate) fn local_address(&self, offset: u32, units: u32, kept: bool) -> Value
         requires { 64 * shape.object_of protected (frame_of self.now) + offset + units < 2 ^ 32 }
         ensures { let id = shape.object_of protected (frame_of self.now) in
             result ≡ value.object_address (64 * id + offset) units id kept }

@@ -7,6 +7,7 @@ mod effect;
 mod frame;
 mod instruction;
 mod notes;
+mod quiet;
 mod stack;
 mod state;
 mod thread;

@@ -1,15 +1,19 @@
 //! The frames of a thread. Nothing else knows how they lie.
 
-ghost use Rattle.std.specs.Prelude.{◌≡◌, ◌<◌, ◌+◌, ◌^◌, ◌∷◌, [], length, IfOk};
+ghost use Rattle.std.specs.Prelude.{◌≡◌, ◌<◌, ◌+◌, ◌^◌, ◌∷◌, ℕ, [], length, IfOk};
+ghost use Rattle.machine.specs.Frames.{Running};
 ghost use Rattle.machine.specs.Threads as spec;
 ghost use Rattle.machine.specs.Protected.{protected};
+ghost use Rattle.machine.specs.ValidCode.{ValidCode};
+ghost use Rattle.thread_engine.specs.Quiet.{TakesQuietTurn};
 ghost use Rattle.thread_engine.specs.Sound.{AreSound, length_of};
 ghost use Rattle.thread_engine.specs.inner.Frames.{HasRoom, IsBottomBy, LeavesBy, below_of, frame_of, frames_of, held, top_of};
 ghost use Rattle.thread_engine.specs.inner.Turns.{write_of};
 
 use crate::effect::Write;
 use crate::frame::Frame;
-use crate::instruction::size_of;
+use crate::instruction::{place_at, size_of};
+use crate::quiet::take_quietly;
 use machine::Code;
 use std::alloc::{AllocError, Global};
 use std::mem::replace;
@@ -90,6 +94,23 @@ impl Stack {
     {
         self.top.place = to;
         self.top.write(write);
+    }
+
+    /// Performs the instruction at which the top frame stands, if its turn is quiet, and answers whether it is. Else
+    /// nothing changes.
+    #[tactic(auto, using(crate::proofs::QuietTurns::place_is_low, crate::proofs::QuietTurns::addresses_are_low))]
+    pub(crate) fn take_quiet_turn(&mut self, code: &Code) -> bool
+        requires valid { ValidCode code.now }
+        requires sound { AreSound code.now (frames_of self.old) }
+        ensures turn { (t : ℕ) → TakesQuietTurn result code.now t
+            (Running (top_of self.old) (below_of self.old)) (Running (top_of self.new) (below_of self.new)) }
+        ensures below { self.new.below ≡ self.old.below }
+        ensures counts { self.old.used ≡ held (frames_of self.old) → self.new.used ≡ held (frames_of self.new) }
+    {
+        match place_at(code, self.top.function, self.top.place) {
+            None => false,
+            Some(place) => take_quietly(&mut self.top, place),
+        }
     }
 
     /// Into a new frame, from behind which the top one goes on.

@@ -11,6 +11,7 @@ ghost use Rattle.machine.specs.Shapes as shape;
 ghost use Rattle.machine.specs.Threads as thread;
 ghost use Rattle.machine.specs.ValidCode.{ValidCode};
 ghost use Rattle.machine.specs.Values as value;
+ghost use Rattle.thread_engine.specs.Quiet.{TakesQuietTurn};
 ghost use Rattle.thread_engine.specs.Sound.{IsSound, SlotsAreThere, length_of};
 ghost use Rattle.thread_engine.specs.inner.Frames.{below_of, frame_of, frames_of, top_of};
 ghost use Rattle.thread_engine.specs.inner.Turns.{EffectFits, StepFits, callee_of, effect_of, halt_of, write_of};
@@ -404,6 +405,20 @@ impl State {
             Phase::Starting(_) => Action::Get(argument_address(number)),
             Phase::Running => action_in(code, number, &self.stack),
             Phase::Ended | Phase::Stopped(_) => Action::Own,
+        }
+    }
+
+    /// Takes the thread's next turn, if it is quiet, and answers whether it is. Else nothing changes.
+    pub(crate) fn take_quiet_turn(&mut self, code: &Code) -> bool
+        requires valid { ValidCode code.now }
+        requires kept { IsKept self.old }
+        requires sound { IsSound code.now (thread_of self.old) }
+        ensures kept { IsKept self.new }
+        ensures turn { (t : ℕ) → TakesQuietTurn result code.now t (thread_of self.old) (thread_of self.new) }
+    {
+        match self.phase {
+            Phase::Running => self.stack.take_quiet_turn(code),
+            Phase::Waiting | Phase::Starting(_) | Phase::Ended | Phase::Stopped(_) => false,
         }
     }
 

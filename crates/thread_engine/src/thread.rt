@@ -6,6 +6,7 @@ ghost use Rattle.machine.specs.Frames as model;
 ghost use Rattle.machine.specs.Logs.{first_thread};
 ghost use Rattle.machine.specs.Protected as spec;
 ghost use Rattle.machine.specs.ValidCode.{ValidCode};
+ghost use Rattle.thread_engine.specs.Quiet.{TakesQuietTurn};
 ghost use Rattle.thread_engine.specs.Sound.{IsSound, SlotsAreThere};
 
 use crate::notes::Notes;
@@ -68,6 +69,18 @@ impl Thread {
         ensures { result ≡ model.has_begun self.now.thread }
     {
         self.state.has_begun()
+    }
+
+    /// Takes its next turn, if that asks for nothing and tells nothing, as most turns do, and answers whether it did. Else
+    /// nothing changes.
+    pub fn take_quiet_turn(&mut self, code: &Code) -> bool
+        requires valid { ValidCode code.now }
+        requires sound { IsSound code.now self.old.thread }
+        ensures number { self.new.number ≡ self.old.number }
+        ensures turn { TakesQuietTurn result code.now self.old.number self.old.thread self.new.thread }
+        ensures sound { IsSound code.now self.new.thread }
+    {
+        self.state.take_quiet_turn(code)
     }
 
     /// What it asks for in its next turn.
