@@ -65,7 +65,7 @@ fn take_turn(
     }
     let action = thread.next(code);
     let reply = memories.answer(action)?;
-    thread.resume_into(code, reply, notes)?;
+    thread.resume_into(code, action, reply, notes)?;
     record_turn(trace, t, action, reply, notes.as_slice());
     Ok(())
 }

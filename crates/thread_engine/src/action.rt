@@ -110,49 +110,11 @@ fn action_at(code: &Code, thread: u8, stack: &Stack, place: &CodePlace) -> Actio
 }
 
 /// Why an action stops the thread, if it does.
-fn halt_of(action: Action) -> Option<Stop>
+pub(crate) fn halt_of(action: Action) -> Option<Stop>
     ensures { result ≡ halt_of action }
 {
     match action {
         Action::Halt(why) => Some(why),
-        _ => None,
-    }
-}
-
-/// Why the thread stops in its next turn with these frames, if it does.
-pub(crate) fn halt_in(code: &Code, stack: &Stack) -> Option<Stop>
-    requires sound { AreSound code.now (frames_of stack.now) }
-    requires counted { stack.now.used ≡ held (frames_of stack.now) }
-    ensures { (t : ℕ) → result ≡ halt_of (spec.action_by code.now t (top_of stack.now) (below_of stack.now)
-        (spec.shape_in code.now (top_of stack.now) (below_of stack.now))) }
-{
-    match place_at(code, stack.top.function, stack.top.place) {
-        None => None,
-        Some(place) => halt_at(code, stack, place),
-    }
-}
-
-/// Why an instruction in the top frame stops the thread, if it does: only where an operator divides, where a pointer is
-/// tested, and where a call goes too deep. Of all others nothing is looked at.
-fn halt_at(code: &Code, stack: &Stack, place: &CodePlace) -> Option<Stop>
-    requires sound { AreSound code.now (frames_of stack.now) }
-    requires counted { stack.now.used ≡ held (frames_of stack.now) }
-    ensures { (t : ℕ) → result ≡ halt_of (spec.action_of code.now t (top_of stack.now) (below_of stack.now)
-        (shape.shape_of protected (length (below_of stack.now)) (top_of stack.now) place.now)) }
-{
-    let top = &stack.top;
-    match place {
-        CodePlace::Binary { op, a, b, .. } => halt_of(binary_action(top, *op, *a, *b)),
-        CodePlace::Touch {
-            p,
-            class,
-            marked: false,
-        } => halt_of(touch_action(*class, top.register(*p))),
-        CodePlace::Call { f, .. } => halt_of(call_action(code, stack, *f)),
-        CodePlace::CallInd { c, ty, .. } => {
-            halt_of(callee_action(code, stack, Callee::of_call(code, ty, top.register(*c))))
-        }
-        CodePlace::Free { p } => halt_of(free_action(top.register(*p))),
         _ => None,
     }
 }

@@ -17,7 +17,7 @@ ghost use Rattle.thread_engine.specs.inner.Frames.{below_of, frame_of, frames_of
 ghost use Rattle.thread_engine.specs.inner.Turns.{EffectFits, StepFits, callee_of, effect_of, halt_of, write_of};
 ghost use Rattle.thread_engine.specs.inner.Views.{Gives, IsKept, thread_of};
 
-use crate::action::{action_in, argument_address, halt_in, start_address};
+use crate::action::{action_in, argument_address, halt_of, start_address};
 use crate::callee::Callee;
 use crate::effect::{Effect, Write, effect_at};
 use crate::frame::Frame;
@@ -422,18 +422,6 @@ impl State {
         }
     }
 
-    /// Why the thread stops in its next turn, if it does.
-    fn halts(&self, code: &Code) -> Option<Stop>
-        requires kept { IsKept self.now }
-        requires sound { IsSound code.now (thread_of self.now) }
-        ensures { (t : ℕ) → result ≡ halt_of (spec.next code.now t (thread_of self.now)) }
-    {
-        match self.phase {
-            Phase::Running => halt_in(code, &self.stack),
-            Phase::Waiting | Phase::Starting(_) | Phase::Ended | Phase::Stopped(_) => None,
-        }
-    }
-
     /// Where the answer of an action that doesn't stop the thread leads it.
     fn answered(
         &mut self,
@@ -473,12 +461,14 @@ impl State {
         alloc: Global,
         code: &Code,
         number: u8,
+        action: Action,
         answer: Reply,
         notes: &mut Notes,
     ) -> Result<(), AllocError>
         requires valid { ValidCode code.now }
         requires kept { IsKept self.old }
         requires sound { IsSound code.now (thread_of self.old) }
+        requires asked { action ≡ spec.next code.now number (thread_of self.old) }
         requires fits { Fits (spec.next code.now number (thread_of self.old)) answer }
         requires there { SlotsAreThere (spec.next code.now number (thread_of self.old)) answer }
         requires empty { notes.old ≡ [] }
@@ -487,7 +477,7 @@ impl State {
             OnOk result (Gives self.new notes.new (spec.resume code.now number (thread_of self.old) action answer)) }
         ensures err { OnErr result (self.new ≡ self.old) }
     {
-        match self.halts(code) {
+        match halt_of(action) {
             Some(why) => {
                 self.stop(why, notes);
                 Ok(())

@@ -108,11 +108,12 @@ impl Thread {
         ensures sound { IsSound code.now self.new.thread }
     {
         let mut notes = Notes::new();
-        self.resume_into(code, answer, &mut notes)?;
+        self.resume_into(code, self.next(code), answer, &mut notes)?;
         Ok(notes)
     }
 
-    /// The same, with what the turn tells put in place of these notes: whoever takes many turns keeps one list for all.
+    /// The same of the action that it asked for, with what the turn tells put in place of these notes: whoever takes many
+    /// turns keeps one list for all, and has asked for the action.
     ///
     /// # Errors
     ///
@@ -120,11 +121,13 @@ impl Thread {
     pub fn resume_into(
         &mut self,
         code: &Code,
+        action: Action,
         answer: Reply,
         notes: &mut Notes,
     ) -> Result<(), AllocError>
         requires valid { ValidCode code.now }
         requires sound { IsSound code.now self.old.thread }
+        requires asked { action ≡ spec.next code.now self.old.number self.old.thread }
         requires fits { Fits (spec.next code.now self.old.number self.old.thread) answer }
         requires there { SlotsAreThere (spec.next code.now self.old.number self.old.thread) answer }
         ensures resumed { let action = spec.next code.now self.old.number self.old.thread in
@@ -135,6 +138,6 @@ impl Thread {
     {
         notes.clear();
         self.state
-            .resume(self.alloc, code, self.number, answer, notes)
+            .resume(self.alloc, code, self.number, action, answer, notes)
     }
 }
