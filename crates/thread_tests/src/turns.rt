@@ -104,6 +104,23 @@ fn a_call_through_a_global_goes_to_what_was_put(rt: HostRuntime) -> Result<(), F
 }
 
 #[test]
+fn turns_that_ask_or_tell_are_not_quiet(rt: HostRuntime) -> Result<(), Fail> {
+    let code = called_through_a_global(rt.alloc())?;
+    assert!(rt; valid_code(&code));
+    let mut thread = Thread::open(rt.alloc(), &code, 0)?;
+    // the call of `main`, which is told
+    assert!(rt; !thread.take_quiet_turn(&code));
+    turn(&rt, &code, &mut thread, Action::Own, Reply::Nothing)?;
+    // two addresses
+    assert!(rt; thread.take_quiet_turn(&code));
+    assert!(rt; thread.take_quiet_turn(&code));
+    // a touch, which asks
+    assert!(rt; !thread.take_quiet_turn(&code));
+    turn(&rt, &code, &mut thread, Action::Look(2), Reply::Flag(true))?;
+    Ok(())
+}
+
+#[test]
 fn a_call_of_nothing_stops(rt: HostRuntime) -> Result<(), Fail> {
     let code = called_through_a_global(rt.alloc())?;
     assert!(rt; valid_code(&code));
