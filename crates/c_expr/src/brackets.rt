@@ -1,22 +1,27 @@
 //! What stands in the parentheses of a declarator.
 
-ghost use Rattle.std.specs.Prelude.{◌≡◌, ◌<◌, ◌^◌, IfOk};
+ghost use Rattle.std.specs.Prelude.{◌≡◌, ℕ, ◌+◌, ◌≤◌, ◌<◌, ◌^◌, if◌then◌else◌, nat_le, IfOk};
+ghost use Rattle.c_tree.specs.Marks.{Kinds};
+ghost use Rattle.c_expr.specs.inner.Parser.{mismatch, pure};
+ghost use Rattle.c_expr.specs.inner.Reads.{Reads};
 ghost use Rattle.c_expr.specs.inner.Readers as reader;
 
+use crate::boxes::boxed;
+use crate::error::Failure;
 use c_tree::{Declarator, Direct, Suffix};
 use c_types::Name;
 use sqlite_items::{Boxed, Items};
-use std::alloc::{AllocError, Global};
+use std::alloc::Global;
 
 /// What stands inside the parentheses of a declarator: a name, or a declarator with stars or suffixes.
-#[derive(Debug, Drop)]
+#[derive(Drop)]
 pub(crate) enum Core {
     Name(Name),
-    Form(Declarator),
+    Form(Boxed<Declarator>),
 }
 
 /// A core in parentheses.
-#[derive(Debug, Drop)]
+#[derive(Drop)]
 pub(crate) struct Bracketed {
     pub core: Core,
     /// How many pairs stand directly round it.
@@ -26,18 +31,23 @@ pub(crate) struct Bracketed {
 }
 
 /// The tree of a core that stars or suffixes stand round.
-fn direct_of(alloc: Global, core: Core) -> Result<Direct, AllocError>
-    ensures { IfOk result (λ d. d ≡ reader.direct_of core) }
+fn direct_of(core: Core) -> Direct
+    ensures { result ≡ reader.direct_of core }
 {
-    Ok(match core {
+    match core {
         Core::Name(name) => Direct::Name(name),
-        Core::Form(form) => Direct::Bracketed(Boxed::new(alloc, form)?),
-    })
+        Core::Form(form) => Direct::Bracketed(form),
+    }
 }
 
 /// The tree of a core with nothing round it, and how deep its nodes are.
-pub(crate) fn whole_of(alloc: Global, core: Core, height: usize) -> (Declarator, usize)
-    ensures { result ≡ reader.whole_of core height }
+pub(crate) fn whole_of(
+    alloc: Global,
+    core: Core,
+    height: usize,
+) -> Result<(Boxed<Declarator>, usize), Failure>
+    ensures reads { (ts : Kinds) → Reads (pure (reader.whole_of core height) ts) result ts }
+    ensures height { (limit : ℕ) → 1 ≤ limit → height ≤ limit → IfOk result (λ d. d.1 ≤ limit) }
 {
     match core {
         Core::Name(name) => {
@@ -46,34 +56,36 @@ pub(crate) fn whole_of(alloc: Global, core: Core, height: usize) -> (Declarator,
                 direct: Direct::Name(name),
                 suffixes: Items::new(alloc),
             };
-            (plain, 1)
+            boxed(alloc, plain, 1)
         }
-        Core::Form(form) => (form, height),
+        Core::Form(form) => Ok((form, height)),
     }
 }
 
-/// A declarator of these stars and suffixes, which are so high.
+/// A declarator of these stars and suffixes, where what stands inside is at most so deep.
 pub(crate) fn formed(
     alloc: Global,
+    limit: usize,
     stars: u32,
     inside: Bracketed,
-    suffixes: Items<Suffix>,
-    height: usize,
-) -> Result<Bracketed, AllocError>
-    requires low { inside.height < 2 ^ 33 }
-    requires suffixes_low { height < 2 ^ 33 }
-    ensures { IfOk result (λ b. b ≡ reader.formed stars inside (suffixes, height)) }
+    suffixes: (Items<Suffix>, usize),
+) -> Result<Bracketed, Failure>
+    requires low { limit < 2 ^ 32 }
+    requires suffixes_low { suffixes.1 ≤ limit }
+    ensures reads { (ts : Kinds) → Reads ((if nat_le inside.height limit then pure (reader.formed stars inside suffixes) else mismatch) ts) result ts }
+    ensures height { IfOk result (λ b. b.height ≤ 1 + limit) }
 {
-    let height = 1 + inside.height.max(height);
-    let direct = direct_of(alloc, inside.core)?;
+    if inside.height > limit {
+        return Err(Failure::Mismatch);
+    }
     let form = Declarator {
         stars,
-        direct,
-        suffixes,
+        direct: direct_of(inside.core),
+        suffixes: suffixes.0,
     };
     Ok(Bracketed {
-        core: Core::Form(form),
+        core: Core::Form(Boxed::new(alloc, form)?),
         pairs: 0,
-        height,
+        height: 1 + inside.height.max(suffixes.1),
     })
 }

@@ -16,12 +16,13 @@ use crate::lookahead::{free_name, opened};
 use crate::names::Names;
 use c_tokens::Mark;
 use c_tree::{Declarator, Expr, Params};
-use sqlite_items::Items;
+use sqlite_items::{Boxed, Items};
 use std::alloc::Global;
 
 impl<'n, F, G> Grammar<'n, F, G>
 where
-    F: Fn(Global, &Names, &mut Cursor<'_>, usize, usize) -> Result<(Expr, usize), Failure> + Copy,
+    F: Fn(Global, &Names, &mut Cursor<'_>, usize, usize) -> Result<(Boxed<Expr>, usize), Failure>
+        + Copy,
     G: Fn(Global, &Names, &mut Cursor<'_>, usize) -> Result<(Params, usize), Failure> + Copy,
 {
     /// The name alone.
@@ -51,14 +52,11 @@ where
         ensures reads { Reads (reader.finished self.now.names.now (below self.now.names.now self.now.depth) (self.now.depth - 1) stars inside tokens.old) result tokens.new }
         ensures height { IfOk result (λ b. b.height ≤ 1 + (self.now.depth - 1)) }
     {
-        let (suffixes, suffix_height) = self.suffixes(tokens)?;
-        if stars == 0 && suffixes.is_empty() {
+        let suffixes = self.suffixes(tokens)?;
+        if stars == 0 && suffixes.0.is_empty() {
             return Ok(inside);
         }
-        if inside.height > self.limit() {
-            return Err(Failure::Mismatch);
-        }
-        Ok(formed(self.alloc, stars, inside, suffixes, suffix_height)?)
+        formed(self.alloc, self.limit(), stars, inside, suffixes)
     }
 
     /// Closes so many parentheses. The stars stand in the innermost.
@@ -147,7 +145,7 @@ where
 
     /// A declarator.
     #[tactic(auto, unfolding(crate::specs::inner::Readers::declarator))]
-    pub fn declarator(&self, tokens: &mut Cursor<'_>) -> Result<(Declarator, usize), Failure>
+    pub fn declarator(&self, tokens: &mut Cursor<'_>) -> Result<(Boxed<Declarator>, usize), Failure>
         requires nests { Nests self.now.depth (F.pre self.now.expr) (F.post self.now.expr) (G.pre self.now.params) (G.post self.now.params) }
         ensures reads { Reads ((readers self.now.names.now self.now.depth).declarator tokens.old) result tokens.new }
         ensures height { IfOk result (λ d. d.1 ≤ self.now.depth) }
@@ -158,7 +156,7 @@ where
         let stars = tokens.run(Mark::Star);
         let inside = self.direct_behind(tokens, stars)?;
         let whole = self.finished(tokens, stars, inside)?;
-        Ok(whole_of(self.alloc, whole.core, whole.height))
+        whole_of(self.alloc, whole.core, whole.height)
     }
 
     /// Declarators with commas between, at least one.
@@ -174,7 +172,7 @@ where
         let mut height = 0;
         for _turn in 0..tokens.left() {
             let (declarator, its_height) = self.declarator(tokens)?;
-            found.push(declarator)?;
+            found.push(declarator.into_inner())?;
             height = height.max(its_height);
             if !tokens.eat(Mark::Comma) {
                 return Ok((found, height));

@@ -9,17 +9,18 @@ use crate::error::Failure;
 use crate::grammar::Grammar;
 use crate::names::Names;
 use c_tree::{Declarator, Expr, Params, Spec};
+use sqlite_items::Boxed;
 use std::alloc::Global;
 
-/// An expression of this level or a tighter one.
+/// An expression of this level or a tighter one, in a box.
 #[cycle(nests)]
-pub fn expr(
+pub(crate) fn boxed_expr(
     alloc: Global,
     names: &Names,
     tokens: &mut Cursor<'_>,
     depth: usize,
     least: usize,
-) -> Result<(Expr, usize), Failure>
+) -> Result<(Boxed<Expr>, usize), Failure>
     requires { depth < 2 ^ 32 }
     ensures reads { Reads ((readers names.now depth).expr least tokens.old) result tokens.new }
     ensures height { IfOk result (λ e. e.1 ≤ depth) }
@@ -31,10 +32,26 @@ pub fn expr(
         alloc,
         names,
         depth,
-        expr,
+        expr: boxed_expr,
         params,
     }
     .level(tokens, least)
+}
+
+/// An expression of this level or a tighter one.
+pub fn expr(
+    alloc: Global,
+    names: &Names,
+    tokens: &mut Cursor<'_>,
+    depth: usize,
+    least: usize,
+) -> Result<(Expr, usize), Failure>
+    requires { depth < 2 ^ 32 }
+    ensures reads { Reads ((readers names.now depth).expr least tokens.old) result tokens.new }
+    ensures height { IfOk result (λ e. e.1 ≤ depth) }
+{
+    let (expr, height) = boxed_expr(alloc, names, tokens, depth, least)?;
+    Ok((expr.into_inner(), height))
 }
 
 /// Parameters.
@@ -53,7 +70,7 @@ pub fn params(
         alloc,
         names,
         depth,
-        expr,
+        expr: boxed_expr,
         params,
     }
     .parameters(tokens)
@@ -70,14 +87,15 @@ pub fn spec(
     ensures reads { Reads ((readers names.now depth).spec true tokens.old) result tokens.new }
     ensures height { IfOk result (λ s. s.1 ≤ depth) }
 {
-    Grammar {
+    let rules = Grammar {
         alloc,
         names,
         depth,
-        expr,
+        expr: boxed_expr,
         params,
-    }
-    .spec(tokens, true)
+    };
+    let (spec, height) = rules.spec(tokens, true)?;
+    Ok((spec.into_inner(), height))
 }
 
 /// A declarator.
@@ -91,12 +109,13 @@ pub fn declarator(
     ensures reads { Reads ((readers names.now depth).declarator tokens.old) result tokens.new }
     ensures height { IfOk result (λ d. d.1 ≤ depth) }
 {
-    Grammar {
+    let rules = Grammar {
         alloc,
         names,
         depth,
-        expr,
+        expr: boxed_expr,
         params,
-    }
-    .declarator(tokens)
+    };
+    let (declarator, height) = rules.declarator(tokens)?;
+    Ok((declarator.into_inner(), height))
 }

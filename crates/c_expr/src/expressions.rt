@@ -11,19 +11,19 @@ use crate::error::Failure;
 use crate::grammar::Grammar;
 use crate::level::{
     ASSIGN_LEVEL, CAST_LEVEL, CONDITIONAL_LEVEL, GREATEST_PAIRS, UNARY_LEVEL, binary_level,
-    continuation, left_level, whole_level,
 };
 use crate::lookahead::{free_name, name_of, opened, opens_type};
 use crate::names::Names;
 use crate::operand::{Continuation, Operand, Part, bracketed, extended};
 use c_tokens::{Keyword, Kind, Mark};
 use c_tree::{Expr, Params, UnaryOperator};
-use sqlite_items::Items;
+use sqlite_items::{Boxed, Items};
 use std::alloc::Global;
 
 impl<'n, F, G> Grammar<'n, F, G>
 where
-    F: Fn(Global, &Names, &mut Cursor<'_>, usize, usize) -> Result<(Expr, usize), Failure> + Copy,
+    F: Fn(Global, &Names, &mut Cursor<'_>, usize, usize) -> Result<(Boxed<Expr>, usize), Failure>
+        + Copy,
     G: Fn(Global, &Names, &mut Cursor<'_>, usize) -> Result<(Params, usize), Failure> + Copy,
 {
     /// Expressions with commas between, at least one.
@@ -36,7 +36,7 @@ where
         let mut height = 0;
         for _turn in 0..tokens.left() {
             let (expr, its_height) = self.inner_expr(tokens, ASSIGN_LEVEL)?;
-            found.push(expr)?;
+            found.push(expr.into_inner())?;
             height = height.max(its_height);
             if !tokens.eat(Mark::Comma) {
                 return Ok((found, height));
@@ -67,7 +67,7 @@ where
         ensures reads { Reads (reader.index self.now.names.now (below self.now.names.now self.now.depth) tokens.old) result tokens.new }
         ensures height { IfOk result (λ p. p.1 ≤ self.now.depth - 1) }
     {
-        let (at, height) = self.inner_boxed(tokens, ASSIGN_LEVEL)?;
+        let (at, height) = self.inner_expr(tokens, ASSIGN_LEVEL)?;
         tokens.expect(Mark::RightBracket)?;
         Ok((Part::Index(at), height))
     }
@@ -79,9 +79,9 @@ where
         ensures reads { Reads (reader.arms self.now.names.now (below self.now.names.now self.now.depth) tokens.old) result tokens.new }
         ensures height { IfOk result (λ p. p.1 ≤ self.now.depth - 1) }
     {
-        let (first, first_height) = self.inner_boxed(tokens, ASSIGN_LEVEL)?;
+        let (first, first_height) = self.inner_expr(tokens, ASSIGN_LEVEL)?;
         tokens.expect(Mark::Colon)?;
-        let (second, second_height) = self.inner_boxed(tokens, CONDITIONAL_LEVEL)?;
+        let (second, second_height) = self.inner_expr(tokens, CONDITIONAL_LEVEL)?;
         Ok((
             Part::Conditional(first, second),
             first_height.max(second_height),
@@ -112,34 +112,14 @@ where
             Continuation::Increment => Ok((Part::Increment, 0)),
             Continuation::Decrement => Ok((Part::Decrement, 0)),
             Continuation::Binary(op) => {
-                let (right, height) = self.inner_boxed(tokens, 1 + binary_level(op))?;
+                let (right, height) = self.inner_expr(tokens, 1 + binary_level(op))?;
                 Ok((Part::Binary(op, right), height))
             }
             Continuation::Conditional => self.arms(tokens),
             Continuation::Assign(op) => {
-                let (right, height) = self.inner_boxed(tokens, ASSIGN_LEVEL)?;
+                let (right, height) = self.inner_expr(tokens, ASSIGN_LEVEL)?;
                 Ok((Part::Assign(op, right), height))
             }
-        }
-    }
-
-    /// What the operand goes on with, at these levels.
-    #[tactic(auto, unfolding(crate::specs::inner::Readers::going_on))]
-    fn going_on(&self, tokens: &Cursor<'_>, least: usize, operand: &Operand) -> Option<Continuation>
-        ensures is { result ≡ reader.going_on (self.now.depth - 1) least operand.now tokens.now }
-        ensures low { IfSome result (λ _. operand.now.height ≤ self.now.depth - 1) }
-    {
-        let Some(Kind::Mark(mark)) = tokens.peek() else {
-            return None;
-        };
-        let next = continuation(*mark)?;
-        if least <= whole_level(next)
-            && left_level(next) <= operand.level
-            && operand.height <= self.limit()
-        {
-            Some(next)
-        } else {
-            None
         }
     }
 
@@ -157,13 +137,13 @@ where
     {
         let mut whole = operand;
         for _turn in 0..tokens.left() {
-            let Some(next) = self.going_on(tokens, least, &whole) else {
+            let Some(next) = whole.going_on(tokens, self.limit(), least) else {
                 return Ok(whole);
             };
             let place = tokens.place();
             tokens.skip();
             match self.part(tokens, next) {
-                Ok((part, height)) => whole = extended(self.alloc, whole, part, height)?,
+                Ok(part) => whole = extended(self.alloc, whole, part)?,
                 Err(Failure::Memory) => return Err(Failure::Memory),
                 Err(Failure::Mismatch) => {
                     tokens.go_back(place);
@@ -198,7 +178,7 @@ where
         least: usize,
         pairs: usize,
         operand: Operand,
-    ) -> Result<(Expr, usize), Failure>
+    ) -> Result<(Boxed<Expr>, usize), Failure>
         requires nests { Nests self.now.depth (F.pre self.now.expr) (F.post self.now.expr) (G.pre self.now.params) (G.post self.now.params) }
         requires low { operand.height ≤ 1 + (self.now.depth - 1) }
         ensures reads { Reads (reader.close self.now.names.now (below self.now.names.now self.now.depth) (self.now.depth - 1) least pairs operand tokens.old) result tokens.new }
@@ -227,10 +207,15 @@ where
             tokens.expect(Mark::LeftParenthesis)?;
             let (word, height) = self.inner_type_word(tokens)?;
             tokens.expect(Mark::RightParenthesis)?;
-            return Ok(Operand::new(UNARY_LEVEL, Expr::SizeofType(word), 1 + height));
+            return Operand::new(self.alloc, UNARY_LEVEL, Expr::SizeofType(word), 1 + height);
         }
-        let (inside, height) = self.inner_boxed(tokens, UNARY_LEVEL)?;
-        Ok(Operand::new(UNARY_LEVEL, Expr::SizeofExpr(inside), 1 + height))
+        let (inside, height) = self.inner_expr(tokens, UNARY_LEVEL)?;
+        Operand::new(
+            self.alloc,
+            UNARY_LEVEL,
+            Expr::SizeofExpr(inside),
+            1 + height,
+        )
     }
 
     /// What stands behind the `(` of a cast.
@@ -242,12 +227,13 @@ where
     {
         let (word, word_height) = self.inner_type_word(tokens)?;
         tokens.expect(Mark::RightParenthesis)?;
-        let (inside, height) = self.inner_boxed(tokens, CAST_LEVEL)?;
-        Ok(Operand::new(
+        let (inside, height) = self.inner_expr(tokens, CAST_LEVEL)?;
+        Operand::new(
+            self.alloc,
             CAST_LEVEL,
             Expr::Cast(word, inside),
             1 + word_height.max(height),
-        ))
+        )
     }
 
     /// What stands behind a unary operator.
@@ -257,8 +243,8 @@ where
         ensures reads { Reads (reader.unary_behind self.now.names.now (below self.now.names.now self.now.depth) op tokens.old) result tokens.new }
         ensures height { IfOk result (λ o. o.height ≤ 1 + (self.now.depth - 1)) }
     {
-        let (inside, height) = self.inner_boxed(tokens, CAST_LEVEL)?;
-        Ok(Operand::new(UNARY_LEVEL, Expr::Unary(op, inside), 1 + height))
+        let (inside, height) = self.inner_expr(tokens, CAST_LEVEL)?;
+        Operand::new(self.alloc, UNARY_LEVEL, Expr::Unary(op, inside), 1 + height)
     }
 
     /// What stands behind a mark that begins an expression.
@@ -271,12 +257,22 @@ where
         match mark {
             Mark::LeftParenthesis => self.cast(tokens),
             Mark::Increment => {
-                let (inside, height) = self.inner_boxed(tokens, UNARY_LEVEL)?;
-                Ok(Operand::new(UNARY_LEVEL, Expr::PreIncrement(inside), 1 + height))
+                let (inside, height) = self.inner_expr(tokens, UNARY_LEVEL)?;
+                Operand::new(
+                    self.alloc,
+                    UNARY_LEVEL,
+                    Expr::PreIncrement(inside),
+                    1 + height,
+                )
             }
             Mark::Decrement => {
-                let (inside, height) = self.inner_boxed(tokens, UNARY_LEVEL)?;
-                Ok(Operand::new(UNARY_LEVEL, Expr::PreDecrement(inside), 1 + height))
+                let (inside, height) = self.inner_expr(tokens, UNARY_LEVEL)?;
+                Operand::new(
+                    self.alloc,
+                    UNARY_LEVEL,
+                    Expr::PreDecrement(inside),
+                    1 + height,
+                )
             }
             Mark::Ampersand => self.unary_behind(tokens, UnaryOperator::Address),
             Mark::Star => self.unary_behind(tokens, UnaryOperator::Dereference),
@@ -303,12 +299,13 @@ where
                 if self.names.contains(name.as_slice()) {
                     return Err(Failure::Mismatch);
                 }
-                Ok(Operand::leaf(Expr::Identifier(name_of(self.alloc, name)?)))
+                let name = name_of(self.alloc, name)?;
+                Operand::leaf(self.alloc, Expr::Identifier(name))
             }
-            Kind::Number(n) => Ok(Operand::leaf(Expr::Number(*n))),
+            Kind::Number(n) => Operand::leaf(self.alloc, Expr::Number(*n)),
             Kind::Text(bytes) => {
                 let bytes = Items::from_slice(self.alloc, bytes.as_slice())?;
-                Ok(Operand::leaf(Expr::Text(bytes)))
+                Operand::leaf(self.alloc, Expr::Text(bytes))
             }
             Kind::Word(Keyword::Sizeof) => self.sizeof(tokens),
             Kind::Word(_) => Err(Failure::Mismatch),
@@ -318,7 +315,11 @@ where
 
     /// An expression of this level or a tighter one.
     #[tactic(auto, unfolding(crate::specs::inner::Readers::level, crate::specs::inner::Readers::level_in))]
-    pub fn level(&self, tokens: &mut Cursor<'_>, least: usize) -> Result<(Expr, usize), Failure>
+    pub fn level(
+        &self,
+        tokens: &mut Cursor<'_>,
+        least: usize,
+    ) -> Result<(Boxed<Expr>, usize), Failure>
         requires { Nests self.now.depth (F.pre self.now.expr) (F.post self.now.expr) (G.pre self.now.params) (G.post self.now.params) }
         ensures reads { Reads (reader.level self.now.names.now (below self.now.names.now self.now.depth) (self.now.depth - 1) least tokens.old) result tokens.new }
         ensures height { IfOk result (λ e. e.1 ≤ 1 + (self.now.depth - 1)) }

@@ -28,27 +28,12 @@ pub(crate) struct Grammar<'n, F, G> {
 
 impl<'n, F, G> Grammar<'n, F, G>
 where
-    F: Fn(Global, &Names, &mut Cursor<'_>, usize, usize) -> Result<(Expr, usize), Failure> + Copy,
+    F: Fn(Global, &Names, &mut Cursor<'_>, usize, usize) -> Result<(Boxed<Expr>, usize), Failure>
+        + Copy,
     G: Fn(Global, &Names, &mut Cursor<'_>, usize) -> Result<(Params, usize), Failure> + Copy,
 {
-    /// An expression of the depth below.
+    /// An expression of the depth below. It is in a box from the start, so that an exit drops a box and no tree.
     pub fn inner_expr(
-        &self,
-        tokens: &mut Cursor<'_>,
-        least: usize,
-    ) -> Result<(Expr, usize), Failure>
-        requires { Nests self.now.depth (F.pre self.now.expr) (F.post self.now.expr) (G.pre self.now.params) (G.post self.now.params) }
-        ensures reads { Reads ((below self.now.names.now self.now.depth).expr least tokens.old) result tokens.new }
-        ensures height { IfOk result (λ e. e.1 ≤ self.now.depth - 1) }
-    {
-        if self.depth == 0 {
-            return Err(Failure::Mismatch);
-        }
-        (self.expr)(self.alloc, self.names, tokens, self.depth - 1, least)
-    }
-
-    /// The same, in a box.
-    pub fn inner_boxed(
         &self,
         tokens: &mut Cursor<'_>,
         least: usize,
@@ -57,8 +42,10 @@ where
         ensures reads { Reads ((below self.now.names.now self.now.depth).expr least tokens.old) result tokens.new }
         ensures height { IfOk result (λ e. e.1 ≤ self.now.depth - 1) }
     {
-        let (expr, height) = self.inner_expr(tokens, least)?;
-        Ok((Boxed::new(self.alloc, expr)?, height))
+        if self.depth == 0 {
+            return Err(Failure::Mismatch);
+        }
+        (self.expr)(self.alloc, self.names, tokens, self.depth - 1, least)
     }
 
     /// Parameters of the depth below.

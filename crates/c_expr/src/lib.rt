@@ -2,6 +2,7 @@
 #![tactic(auto)]
 
 mod abstract_declarators;
+mod boxes;
 mod brackets;
 mod cursor;
 mod declarators;

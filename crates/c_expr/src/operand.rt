@@ -1,16 +1,25 @@
 //! Operands, and what they go on with.
 
-ghost use Rattle.std.specs.Prelude.{◌≡◌, ◌+◌, ◌<◌, ◌^◌, max, IfOk};
+ghost use Rattle.std.specs.Prelude.{◌≡◌, ℕ, ◌+◌, ◌<◌, ◌≤◌, ◌^◌, max, IfOk, IfSome};
+ghost use Rattle.c_tree.specs.Marks.{Kinds};
+ghost use Rattle.c_expr.specs.inner.Parser.{pure};
+ghost use Rattle.c_expr.specs.inner.Reads.{Reads};
 ghost use Rattle.c_expr.specs.inner.Readers as reader;
 
-use crate::level::{ASSIGN_LEVEL, CONDITIONAL_LEVEL, POSTFIX_LEVEL, PRIMARY_LEVEL, binary_level};
+use crate::cursor::Cursor;
+use crate::error::Failure;
+use crate::level::{
+    ASSIGN_LEVEL, CONDITIONAL_LEVEL, POSTFIX_LEVEL, PRIMARY_LEVEL, binary_level, continuation,
+    left_level, whole_level,
+};
+use c_tokens::Kind;
 use c_tree::{AssignOperator, BinaryOperator, Expr};
 use c_types::Name;
 use sqlite_items::{Boxed, Items};
 use std::alloc::{AllocError, Global};
 
 /// What a mark behind an operand begins.
-#[derive(Clone, Copy, Debug)]
+#[derive(Clone, Copy)]
 pub(crate) enum Continuation {
     Index,
     Call,
@@ -24,7 +33,7 @@ pub(crate) enum Continuation {
 }
 
 /// What goes on behind an operand.
-#[derive(Debug, Drop)]
+#[derive(Drop)]
 pub(crate) enum Part {
     Index(Boxed<Expr>),
     Call(Items<Expr>),
@@ -38,9 +47,9 @@ pub(crate) enum Part {
 }
 
 /// An expression that may go on.
-#[derive(Debug, Drop)]
+#[derive(Drop)]
 pub(crate) struct Operand {
-    pub expr: Expr,
+    pub expr: Boxed<Expr>,
     /// The level of the grammar that it is of.
     pub level: usize,
     /// How many pairs of parentheses stand directly round it.
@@ -51,22 +60,44 @@ pub(crate) struct Operand {
 
 impl Operand {
     /// An operand of this level, with no parentheses round it.
-    pub fn new(level: usize, expr: Expr, height: usize) -> Operand
-        ensures { result ≡ reader.operand level expr height }
+    pub fn new(alloc: Global, level: usize, expr: Expr, height: usize) -> Result<Operand, Failure>
+        ensures reads { (ts : Kinds) → Reads (pure (reader.operand level expr height) ts) result ts }
+        ensures height { (limit : ℕ) → height ≤ limit → IfOk result (λ o. o.height ≤ limit) }
     {
-        Operand {
+        let expr = Boxed::new(alloc, expr)?;
+        Ok(Operand {
             expr,
             level,
             pairs: 0,
             height,
-        }
+        })
     }
 
     /// An operand of one token.
-    pub fn leaf(expr: Expr) -> Operand
-        ensures { result ≡ reader.leaf expr }
+    pub fn leaf(alloc: Global, expr: Expr) -> Result<Operand, Failure>
+        ensures reads { (ts : Kinds) → Reads (pure (reader.leaf expr) ts) result ts }
+        ensures height { (limit : ℕ) → 1 ≤ limit → IfOk result (λ o. o.height ≤ limit) }
     {
-        Operand::new(PRIMARY_LEVEL, expr, 1)
+        Operand::new(alloc, PRIMARY_LEVEL, expr, 1)
+    }
+
+    /// What it goes on with, at these levels and where its nodes are at most so deep.
+    #[tactic(auto, unfolding(crate::specs::inner::Readers::going_on))]
+    pub fn going_on(&self, tokens: &Cursor<'_>, limit: usize, least: usize) -> Option<Continuation>
+        ensures is { result ≡ reader.going_on limit least self.now tokens.now }
+        ensures low { IfSome result (λ _. self.now.height ≤ limit) }
+    {
+        let Some(Kind::Mark(mark)) = tokens.peek() else {
+            return None;
+        };
+        let Some(next) = continuation(*mark) else {
+            return None;
+        };
+        if least <= whole_level(next) && left_level(next) <= self.level && self.height <= limit {
+            Some(next)
+        } else {
+            None
+        }
     }
 }
 
@@ -108,18 +139,22 @@ fn with_part(left: Boxed<Expr>, part: Part) -> Expr
 pub(crate) fn extended(
     alloc: Global,
     operand: Operand,
-    part: Part,
-    height: usize,
+    part: (Part, usize),
 ) -> Result<Operand, AllocError>
     requires low { operand.height < 2 ^ 32 }
-    requires part_low { height < 2 ^ 32 }
-    ensures is { IfOk result (λ o. o ≡ reader.extended operand (part, height)) }
-    ensures height { IfOk result (λ o. o.height ≡ 1 + max operand.height height) }
+    requires part_low { part.1 < 2 ^ 32 }
+    ensures is { IfOk result (λ o. o ≡ reader.extended operand part) }
+    ensures height { IfOk result (λ o. o.height ≡ 1 + max operand.height part.1) }
 {
+    let (part, height) = part;
     let level = part_level(&part);
-    let height = 1 + operand.height.max(height);
-    let left = Boxed::new(alloc, operand.expr)?;
-    Ok(Operand::new(level, with_part(left, part), height))
+    let expr = Boxed::new(alloc, with_part(operand.expr, part))?;
+    Ok(Operand {
+        expr,
+        level,
+        pairs: 0,
+        height: 1 + operand.height.max(height),
+    })
 }
 
 /// The operand in one more pair of parentheses.

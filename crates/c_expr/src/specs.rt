@@ -7,6 +7,7 @@ ghost use Rattle.c_expr.specs.inner.Readers as reader;
 ghost use Rattle.c_expr.specs.inner.Readers.{readers};
 ghost use Rattle.c_expr.specs.inner.Reads.{Reads};
 
+use crate::boxes::boxed;
 use crate::cursor::{Cursor, is_word};
 use crate::error::Failure;
 use crate::grammar::Grammar;
@@ -20,13 +21,14 @@ use std::alloc::Global;
 
 impl<'n, F, G> Grammar<'n, F, G>
 where
-    F: Fn(Global, &Names, &mut Cursor<'_>, usize, usize) -> Result<(Expr, usize), Failure> + Copy,
+    F: Fn(Global, &Names, &mut Cursor<'_>, usize, usize) -> Result<(Boxed<Expr>, usize), Failure>
+        + Copy,
     G: Fn(Global, &Names, &mut Cursor<'_>, usize) -> Result<(Params, usize), Failure> + Copy,
 {
     /// One line of a struct's body.
     #[cycle(spec)]
     #[tactic(auto, unfolding(crate::specs::inner::Readers::member))]
-    fn member(&self, tokens: &mut Cursor<'_>) -> Result<(MemberDecl, usize), Failure>
+    fn member(&self, tokens: &mut Cursor<'_>) -> Result<(Boxed<MemberDecl>, usize), Failure>
         requires nests { Nests self.now.depth (F.pre self.now.expr) (F.post self.now.expr) (G.pre self.now.params) (G.post self.now.params) }
         ensures reads { Reads (reader.member self.now.names.now (below self.now.names.now self.now.depth) tokens.old) result tokens.new }
         ensures height { IfOk result (λ m. m.1 < self.now.depth) }
@@ -38,7 +40,9 @@ where
         let (spec, spec_height) = inner.spec(tokens, true)?;
         let (declarators, height) = inner.declarators(tokens)?;
         tokens.expect(Mark::Semicolon)?;
-        Ok((MemberDecl { spec, declarators }, spec_height.max(height)))
+        let spec = spec.into_inner();
+        let member = MemberDecl { spec, declarators };
+        boxed(self.alloc, member, spec_height.max(height))
     }
 
     /// At least one member, and the `}` behind them.
@@ -52,7 +56,7 @@ where
         let mut height = 0;
         for _turn in 0..tokens.left() {
             let (member, its_height) = self.member(tokens)?;
-            found.push(member)?;
+            found.push(member.into_inner())?;
             height = height.max(its_height);
             if tokens.eat(Mark::RightBrace) {
                 return Ok((found, height));
@@ -64,19 +68,27 @@ where
     /// The body of the struct of this tag.
     #[cycle(spec)]
     #[tactic(auto, unfolding(crate::specs::inner::Readers::struct_body))]
-    fn struct_body(&self, tokens: &mut Cursor<'_>, tag: Name) -> Result<(Spec, usize), Failure>
+    fn struct_body(
+        &self,
+        tokens: &mut Cursor<'_>,
+        tag: Name,
+    ) -> Result<(Boxed<Spec>, usize), Failure>
         requires nests { Nests self.now.depth (F.pre self.now.expr) (F.post self.now.expr) (G.pre self.now.params) (G.post self.now.params) }
         ensures reads { Reads (reader.struct_body self.now.names.now (below self.now.names.now self.now.depth) tag tokens.old) result tokens.new }
         ensures height { IfOk result (λ s. s.1 ≤ self.now.depth) }
     {
         tokens.expect(Mark::LeftBrace)?;
         let (members, height) = self.members(tokens)?;
-        Ok((Spec::Struct(tag, Some(members)), 1 + height))
+        boxed(self.alloc, Spec::Struct(tag, Some(members)), 1 + height)
     }
 
     /// What stands behind `struct`: a tag, and a body where it may have one.
     #[cycle(spec)]
-    fn struct_spec(&self, tokens: &mut Cursor<'_>, bodies: bool) -> Result<(Spec, usize), Failure>
+    fn struct_spec(
+        &self,
+        tokens: &mut Cursor<'_>,
+        bodies: bool,
+    ) -> Result<(Boxed<Spec>, usize), Failure>
         requires nests { Nests self.now.depth (F.pre self.now.expr) (F.post self.now.expr) (G.pre self.now.params) (G.post self.now.params) }
         ensures reads { Reads (reader.«struct» self.now.names.now (below self.now.names.now self.now.depth) bodies tokens.old) result tokens.new }
         ensures height { IfOk result (λ s. s.1 ≤ self.now.depth) }
@@ -85,14 +97,18 @@ where
         if bodies && tokens.sees(Mark::LeftBrace) {
             self.struct_body(tokens, tag)
         } else {
-            Ok((Spec::Struct(tag, None), 0))
+            boxed(self.alloc, Spec::Struct(tag, None), 0)
         }
     }
 
     /// What stands in front of a declarator. It may have bodies of structs, where `bodies` says so.
     #[cycle(spec)]
     #[tactic(auto, using(crate::proofs::ReadersLemmas::spec_at), unfolding(crate::specs::inner::Readers::spec))]
-    pub fn spec(&self, tokens: &mut Cursor<'_>, bodies: bool) -> Result<(Spec, usize), Failure>
+    pub fn spec(
+        &self,
+        tokens: &mut Cursor<'_>,
+        bodies: bool,
+    ) -> Result<(Boxed<Spec>, usize), Failure>
         requires nests { Nests self.now.depth (F.pre self.now.expr) (F.post self.now.expr) (G.pre self.now.params) (G.post self.now.params) }
         ensures reads { Reads ((readers self.now.names.now self.now.depth).spec bodies tokens.old) result tokens.new }
         ensures height { IfOk result (λ s. s.1 ≤ self.now.depth) }
@@ -102,15 +118,16 @@ where
         };
         tokens.skip();
         match kind {
-            Kind::Word(Keyword::Int) => Ok((Spec::Int, 0)),
-            Kind::Word(Keyword::Char) => Ok((Spec::Char, 0)),
-            Kind::Word(Keyword::Void) => Ok((Spec::Void, 0)),
+            Kind::Word(Keyword::Int) => boxed(self.alloc, Spec::Int, 0),
+            Kind::Word(Keyword::Char) => boxed(self.alloc, Spec::Char, 0),
+            Kind::Word(Keyword::Void) => boxed(self.alloc, Spec::Void, 0),
             Kind::Word(Keyword::Struct) => self.struct_spec(tokens, bodies),
             Kind::Name(name) => {
                 if !self.names.contains(name.as_slice()) {
                     return Err(Failure::Mismatch);
                 }
-                Ok((Spec::TypeName(name_of(self.alloc, name)?), 0))
+                let name = name_of(self.alloc, name)?;
+                boxed(self.alloc, Spec::TypeName(name), 0)
             }
             _ => Err(Failure::Mismatch),
         }
@@ -118,7 +135,7 @@ where
 
     /// A type in a cast or a `sizeof`.
     #[tactic(auto, unfolding(crate::specs::inner::Readers::type_word))]
-    fn type_word(&self, tokens: &mut Cursor<'_>) -> Result<(TypeWord, usize), Failure>
+    fn type_word(&self, tokens: &mut Cursor<'_>) -> Result<(Boxed<TypeWord>, usize), Failure>
         requires nests { Nests self.now.depth (F.pre self.now.expr) (F.post self.now.expr) (G.pre self.now.params) (G.post self.now.params) }
         ensures reads { Reads ((readers self.now.names.now self.now.depth).type_word tokens.old) result tokens.new }
         ensures height { IfOk result (λ t. t.1 ≤ self.now.depth) }
@@ -129,10 +146,14 @@ where
         let inner = self.inner();
         let (spec, spec_height) = inner.spec(tokens, false)?;
         let (declarator, height) = inner.abstract_declarator(tokens)?;
-        Ok((TypeWord { spec, declarator }, 1 + spec_height.max(height)))
+        let word = TypeWord {
+            spec: spec.into_inner(),
+            declarator: declarator.into_inner(),
+        };
+        boxed(self.alloc, word, 1 + spec_height.max(height))
     }
 
-    /// A type word of the depth below, in a box.
+    /// A type word of the depth below.
     pub fn inner_type_word(
         &self,
         tokens: &mut Cursor<'_>,
@@ -144,13 +165,12 @@ where
         if self.depth == 0 {
             return Err(Failure::Mismatch);
         }
-        let (word, height) = self.inner().type_word(tokens)?;
-        Ok((Boxed::new(self.alloc, word)?, height))
+        self.inner().type_word(tokens)
     }
 
     /// One parameter.
     #[tactic(auto, unfolding(crate::specs::inner::Readers::param))]
-    fn param(&self, tokens: &mut Cursor<'_>) -> Result<(Param, usize), Failure>
+    fn param(&self, tokens: &mut Cursor<'_>) -> Result<(Boxed<Param>, usize), Failure>
         requires nests { Nests self.now.depth (F.pre self.now.expr) (F.post self.now.expr) (G.pre self.now.params) (G.post self.now.params) }
         ensures reads { Reads (reader.param self.now.names.now (readers self.now.names.now self.now.depth).spec (readers self.now.names.now self.now.depth).declarator (readers self.now.names.now self.now.depth).abstract tokens.old) result tokens.new }
         ensures height { IfOk result (λ p. p.1 ≤ self.now.depth) }
@@ -158,10 +178,12 @@ where
         let (spec, spec_height) = self.spec(tokens, true)?;
         if looks_named(self.names, tokens) {
             let (declarator, height) = self.declarator(tokens)?;
-            Ok((Param::Named(spec, declarator), spec_height.max(height)))
+            let param = Param::Named(spec.into_inner(), declarator.into_inner());
+            boxed(self.alloc, param, spec_height.max(height))
         } else {
             let (declarator, height) = self.abstract_declarator(tokens)?;
-            Ok((Param::Unnamed(spec, declarator), spec_height.max(height)))
+            let param = Param::Unnamed(spec.into_inner(), declarator.into_inner());
+            boxed(self.alloc, param, spec_height.max(height))
         }
     }
 
@@ -175,7 +197,7 @@ where
         let mut height = 0;
         for _turn in 0..tokens.left() {
             let (param, its_height) = self.param(tokens)?;
-            found.push(param)?;
+            found.push(param.into_inner())?;
             height = height.max(its_height);
             if !tokens.eat(Mark::Comma) {
                 return Ok((found, height));

@@ -1,15 +1,19 @@
 -- The readers that the rules of one depth are made of, and functions that compute them.
-use Rattle.std.specs.Prelude.{ℕ, zero, suc, ◌<◌, ◌≤◌, ◌^◌, if◌then◌else◌, nat_lt, List, Result, IfOk}
+use Rattle.std.specs.Prelude.{ℕ, zero, suc, ◌+◌, ◌<◌, ◌≤◌, ◌^◌, max, if◌then◌else◌, nat_lt, List, Some, Result, IfOk}
 use Rattle.std.specs.declared.alloc.Global.{Global}
 use denote.Ref.{Bor, MutBor}
+use Rattle.c_tree.specs.declared.expression.AbstractDeclarator.{AbstractDeclarator}
 use Rattle.c_tree.specs.declared.expression.Expr.{Expr}
 use Rattle.c_tree.specs.declared.expression.Params.{Params}
+use Rattle.c_tree.specs.declared.expression.Suffix.{Suffix}
+use Rattle.c_tree.specs.declared.expression.Suffix.TheVariants as suffix_as
+use Rattle.c_tree.specs.Trees.{abstract as abstract_of}
 use Rattle.c_tree.specs.Marks.{Kinds, greatest_pairs, assign_level}
 use Rattle.c_expr.specs.declared.error.Failure.{Failure}
 use Rattle.c_tokens.specs.declared.token.Mark.TheVariants as mark
 use Rattle.c_expr.specs.declared.operand.Operand.{Operand}
 use Rattle.c_expr.specs.inner.Parser.{Parser, WithHeight, ◌>>=◌, ◌>>◌, pure, mismatch, expect}
-use Rattle.c_expr.specs.inner.Readers.{Readers, readers, nothing, grow, bracketed}
+use Rattle.c_expr.specs.inner.Readers.{Readers, readers, nothing, suffixes, with_suffixes, grow, bracketed}
 use Rattle.c_expr.specs.inner.Reads.{Reads}
 
 -- the readers of the depth below
@@ -39,3 +43,24 @@ in_pair names inner limit o = do
   whole ← grow names inner limit assign_level o
   expect mark.RightParenthesis
   if nat_lt whole.pairs greatest_pairs then pure (bracketed whole) else mismatch
+
+-- the parameters of a suffix, behind their parenthesis
+unfoldable pub given : Readers → Parser (WithHeight Suffix)
+given inner = do
+  params ← inner.params
+  expect mark.RightParenthesis
+  pure (suffix_as.Function params.0, params.1)
+
+-- behind an abstract declarator in parentheses that has these stars before it
+unfoldable pub nested_behind : List (List ℕ) → Readers → ℕ → WithHeight AbstractDeclarator → Parser (WithHeight AbstractDeclarator)
+nested_behind names inner stars inside = do
+  expect mark.RightParenthesis
+  ss ← suffixes names inner
+  pure (abstract_of stars (Some inside.0) ss.0, 1 + max inside.1 ss.1)
+
+-- behind one in parentheses that may stand for nothing
+unfoldable pub bracketed_behind : List (List ℕ) → Readers → ℕ → WithHeight AbstractDeclarator → Parser (WithHeight AbstractDeclarator)
+bracketed_behind names inner limit inside = do
+  expect mark.RightParenthesis
+  ss ← suffixes names inner
+  with_suffixes names inner limit inside ss
