@@ -1,4 +1,3 @@
-mod InitForms
 mod StatementForms
 mod ItemLists
 mod OneVerdict

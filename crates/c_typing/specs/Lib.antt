@@ -1,6 +1,3 @@
-pub mod Leaves
-pub mod Initialisers
-pub mod Declarations
 pub mod Statements
 pub mod Functions
 pub mod Sources

@@ -17,7 +17,7 @@ use Rattle.c_scope.specs.Definitions.{is_main, undefined_use}
 use Rattle.c_scope.specs.Scopes.{empty, known_function}
 use Rattle.c_scope.specs.Walk.{Outcome, Walk, ◌>>=◌, each, pure}
 use Rattle.c_expr_typing.specs.Trees.{typed_spec}
-use Rattle.c_typing.specs.Declarations.{typed_decl, typed_type}
+use Rattle.c_declaration_typing.specs.Declarations.{typed_decl, typed_type}
 use Rattle.c_typing.specs.Functions.{typed_function}
 
 -- ---- items

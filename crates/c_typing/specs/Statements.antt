@@ -24,7 +24,7 @@ use Rattle.c_scope.specs.Walk.{Walk, ◌>>=◌, ◌>>◌, each, maybe, pure, rul
 use Rattle.c_rules.specs.declared.place.Place.TheVariants.{Value}
 use Rattle.c_operators.specs.Operators.{converts, is_scalar_value}
 use Rattle.c_expr_typing.specs.Trees.{typed_expr}
-use Rattle.c_typing.specs.Declarations.{typed_decl}
+use Rattle.c_declaration_typing.specs.Declarations.{typed_decl}
 
 -- ---- expressions of statements
 

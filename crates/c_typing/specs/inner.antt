@@ -1,2 +1,1 @@
-pub mod LeafForms
 pub mod Refusals

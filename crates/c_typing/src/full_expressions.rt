@@ -5,7 +5,7 @@ ghost use Rattle.std.specs.Option.{option_copied};
 ghost use Rattle.c_scope.specs.Walks.{Walks};
 ghost use Rattle.c_typing.specs.Statements as spec;
 
-use crate::declarations::declaration;
+use c_declaration_typing::declaration;
 use c_expr_typing::expression;
 use c_operators::{converts, is_scalar_value};
 use c_rules::Place;

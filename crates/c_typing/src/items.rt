@@ -6,9 +6,9 @@ ghost use Rattle.c_typing.specs.Checks.{ChecksPart};
 ghost use Rattle.c_typing.specs.inner.Refusals.{refused};
 ghost use Rattle.c_typing.specs.Sources as spec;
 
-use crate::declarations::{declaration, type_declarators};
 use crate::error::CheckRefusal;
 use crate::functions::function;
+use c_declaration_typing::{declaration, type_declarators};
 use c_expr_typing::spec;
 use c_scope::{Failure, World};
 use c_tree::{Block, Declarator, Item, Spec};

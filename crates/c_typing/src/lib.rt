@@ -1,13 +1,10 @@
 //! The typed form of a source, or the first rule that it breaks.
 #![tactic(auto)]
 
-mod declarations;
 mod error;
 mod full_expressions;
 mod functions;
-mod initialisers;
 mod items;
-mod leaves;
 mod sources;
 mod statements;
 mod theorems;

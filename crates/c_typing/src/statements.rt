@@ -6,8 +6,8 @@ ghost use Rattle.c_typing.specs.Statements as spec;
 ghost use Rattle.c_typing.specs.Statements.{walked_statements};
 ghost use Rattle.c_typed.specs.declared.statement.TypedStmt.TheVariants as stmt;
 
-use crate::declarations::declaration;
 use crate::full_expressions::{condition, expression_statement, for_head, return_statement};
+use c_declaration_typing::declaration;
 use c_scope::{Failure, Rule, World, test};
 use c_tree::{Block, BlockItem, ForLoop, FullExpr, Stmt};
 use c_typed::{TypedBlock, TypedBlockItem, TypedForLoop, TypedStmt};

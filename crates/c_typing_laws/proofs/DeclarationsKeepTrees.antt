@@ -16,8 +16,8 @@ use Rattle.c_typing_laws.specs.inner.ErasedTrees.{declarator_tree}
 use Rattle.c_expr_typing.specs.Trees.{typed_declarator, typed_spec}
 use Rattle.c_typing_laws.specs.inner.ErasedDeclarators.{declared-made}
 use Rattle.c_typing_laws.specs.inner.Yields.{Yields, after, at_once, whatever}
-use Rattle.c_typing.specs.Declarations.{declare, declare_all, declare_type, optional_init, typed_decl, typed_init_declarator, typed_type}
-use Rattle.c_typing.specs.Initialisers.{typed_init}
+use Rattle.c_declaration_typing.specs.Declarations.{declare, declare_all, declare_type, optional_init, typed_decl, typed_init_declarator, typed_type}
+use Rattle.c_declaration_typing.specs.Initialisers.{typed_init}
 use Rattle.c_typing_laws.proofs.InitialisersKeepTrees.{init-keeps}
 
 -- ---- walks of options and lists

@@ -28,7 +28,7 @@ use Rattle.c_scope.specs.Scopes.{bind, bound_in}
 use Rattle.c_scope.specs.Walk.{Outcome, Walk, ◌>>=◌, ◌>>◌, and_then, each, pure}
 use Rattle.c_expr_typing.specs.declared.layered.LayeredDeclarator.{LayeredDeclarator}
 use Rattle.c_expr_typing.specs.Trees.{declared, typed_declarator, typed_spec}
-use Rattle.c_typing.specs.Declarations.{completed, declare, declare_all, declare_by, optional_init, shaped_type, typed_decl, typed_init_declarator}
+use Rattle.c_declaration_typing.specs.Declarations.{completed, declare, declare_all, declare_by, optional_init, shaped_type, typed_decl, typed_init_declarator}
 use Rattle.c_typed_rows.specs.Contexts.{Context, Signature}
 use Rattle.c_typed_rows.specs.Expressions.{IsTypedSpec}
 use Rattle.c_typed_rows.specs.Initialisers.{IsTypedInit}

@@ -20,7 +20,7 @@ use Rattle.c_rules.specs.declared.place.Place.TheVariants.{Value}
 use Rattle.c_typing_laws.specs.inner.WalkedTrees.{WalksKeepTrees}
 use Rattle.c_expr_typing.specs.Trees.{typed_expr}
 use Rattle.c_typing_laws.specs.inner.Yields.{Yields, after, at_once, whatever}
-use Rattle.c_typing.specs.Initialisers.{OfInit, braces, char_bound, given_by, init_step, one_part, part_of, parts_from, text_at, text_of, typed_init}
+use Rattle.c_declaration_typing.specs.Initialisers.{OfInit, braces, char_bound, given_by, init_step, one_part, part_of, parts_from, text_at, text_of, typed_init}
 
 -- ---- initialisers without their types
 

@@ -23,9 +23,9 @@ use Rattle.c_scope.specs.declared.world.World.{World}
 use Rattle.c_scope.specs.Walk.{each, rule}
 use Rattle.c_rules.specs.declared.place.Place.TheVariants.{Value}
 use Rattle.c_operators.specs.Operators.{converts, takes_value}
-use Rattle.c_typing.specs.Initialisers as walk
-use Rattle.c_typing.specs.Initialisers.{OfInit, braces, given_by, given_text, given_value, has_parts, init_step, leaf_rules, one_part, parts_from, parts_rule, text_of, typed_init, value_rules}
-use Rattle.c_typing.specs.Leaves.{is_constant_leaf}
+use Rattle.c_declaration_typing.specs.Initialisers as walk
+use Rattle.c_declaration_typing.specs.Initialisers.{OfInit, braces, given_by, given_text, given_value, has_parts, init_step, leaf_rules, one_part, parts_from, parts_rule, text_of, typed_init, value_rules}
+use Rattle.c_declaration_typing.specs.Leaves.{is_constant_leaf}
 use Rattle.c_typed_rows.specs.Contexts.{Context, global_type}
 use Rattle.c_typed_rows.specs.Expressions.{IsTypedValue}
 use Rattle.c_typed_rows.specs.Initialisers.{InitLevel, char_bound, fits_step, init_fits, part_at, part_of, parts_fit}

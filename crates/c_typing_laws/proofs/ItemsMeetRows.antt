@@ -30,7 +30,7 @@ use Rattle.c_scope.specs.Scopes.{empty, known_function}
 use Rattle.c_scope.specs.Walk.{Outcome, Walk, ◌>>=◌, each, pure}
 use Rattle.c_expr_typing.specs.declared.layered.LayeredDeclarator.{LayeredDeclarator}
 use Rattle.c_expr_typing.specs.Trees.{typed_declarator, typed_spec}
-use Rattle.c_typing.specs.Declarations.{declare_type, named_type, shaped_name, typed_decl, typed_type}
+use Rattle.c_declaration_typing.specs.Declarations.{declare_type, named_type, shaped_name, typed_decl, typed_type}
 use Rattle.c_typing.specs.Functions.{typed_function}
 use Rattle.c_typing.specs.Sources.{Verdict, at_item, finished_behind, finished_by, function_item, items_behind, typed_item, typed_items, typed_source, typedef_item, with_first}
 use Rattle.c_typed_rows.specs.Contexts.{Context, Signature}

@@ -20,7 +20,7 @@ use Rattle.c_typed.specs.declared.statement.TypedStmt.TheVariants as stmt
 use Rattle.c_scope.specs.declared.world.World.{World}
 use Rattle.c_scope.specs.Scopes.{within}
 use Rattle.c_scope.specs.Walk.{Walk}
-use Rattle.c_typing.specs.Declarations.{typed_decl}
+use Rattle.c_declaration_typing.specs.Declarations.{typed_decl}
 use Rattle.c_typing.specs.Statements.{block_item_step, block_items, block_step, branches, condition, for_step, optional, returned_rules, stmt_step, walked_statements}
 use Rattle.c_typed_rows.specs.Statements.{block_item_jumps, block_jumps, jumps_out, stmt_jumps}
 use Rattle.c_typing_laws.specs.inner.Yields.{Yields, after, at_once, inside_scope, never, whatever}

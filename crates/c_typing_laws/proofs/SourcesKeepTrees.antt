@@ -23,7 +23,7 @@ use Rattle.c_typing_laws.specs.inner.WalkedTrees.{WalksKeepTrees}
 use Rattle.c_expr_typing.specs.Trees.{typed_declarator, typed_spec}
 use Rattle.c_typing_laws.specs.inner.ErasedDeclarators.{declared-made}
 use Rattle.c_typing_laws.specs.inner.Yields.{Yields, after, at_once, inside_scope, whatever}
-use Rattle.c_typing.specs.Declarations.{typed_decl, typed_type}
+use Rattle.c_declaration_typing.specs.Declarations.{typed_decl, typed_type}
 use Rattle.c_typing.specs.Functions.{bind_own, define_function, function_body, function_parts, take_locals, typed_function}
 use Rattle.c_typing.specs.Sources.{Verdict, at_item, finished_behind, finished_by, items_behind, typed_item, typed_items, typed_source, with_first}
 use Rattle.c_typing.specs.Statements.{typed_block}

@@ -21,7 +21,7 @@ use Rattle.c_rules.specs.declared.place.Place.TheVariants.{Value}
 use Rattle.c_typing_laws.specs.inner.WalkedTrees.{WalksKeepTrees}
 use Rattle.c_expr_typing.specs.Trees.{typed_expr}
 use Rattle.c_typing_laws.specs.inner.Yields.{Yields, after, at_once, each_yields, inside_scope, map_twice, whatever}
-use Rattle.c_typing.specs.Declarations.{typed_decl}
+use Rattle.c_declaration_typing.specs.Declarations.{typed_decl}
 use Rattle.c_typing.specs.Statements.{OfBlockItem, block_item_step, block_items, block_step, branches, condition, for_head, for_step, full, optional, optional_condition, stmt_step, typed_for_init, walked_statements}
 use Rattle.c_typing_laws.specs.inner.ErasedStatements as erased
 use Rattle.c_typing_laws.specs.inner.ErasedStatements.{block_item_tree, for_loop_tree, stmt_tree}

@@ -23,9 +23,9 @@ use Rattle.c_scope.specs.declared.world.World.{World}
 use Rattle.c_scope.specs.Declarations.{is_undefined}
 use Rattle.c_rules.specs.declared.place.Place.TheVariants.{Value}
 use Rattle.c_expr_typing.specs.Trees.{body_tag, members, typed_expr, walked}
-use Rattle.c_typing.specs.Declarations.{typed_decl}
+use Rattle.c_declaration_typing.specs.Declarations.{typed_decl}
 use Rattle.c_typing.specs.Functions.{typed_function}
-use Rattle.c_typing.specs.Initialisers.{typed_init}
+use Rattle.c_declaration_typing.specs.Initialisers.{typed_init}
 use Rattle.c_typing.specs.Statements.{typed_block}
 use Rattle.c_typing.specs.Theorems.{HasForm}
 use Rattle.c_typed_rows.specs.Contexts.{Context, Name, Signature}

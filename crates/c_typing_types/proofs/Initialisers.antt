@@ -15,8 +15,8 @@ use Rattle.c_scope.specs.declared.world.World.{World}
 use Rattle.c_scope.specs.Walk.{each}
 use Rattle.c_operators.specs.Operators.{converts, takes_value}
 use Rattle.c_rules.specs.declared.place.Place.TheVariants.{Value}
-use Rattle.c_typing.specs.Initialisers.{OfInit, braces, char_bound, given_by, given_text, given_value, has_parts, init_step, leaf_rules, one_part, part_of, parts_from, parts_rule, text_of, typed_init, value_rules}
-use Rattle.c_typing.specs.Leaves.{is_constant_leaf}
+use Rattle.c_declaration_typing.specs.Initialisers.{OfInit, braces, char_bound, given_by, given_text, given_value, has_parts, init_step, leaf_rules, one_part, part_of, parts_from, parts_rule, text_of, typed_init, value_rules}
+use Rattle.c_declaration_typing.specs.Leaves.{is_constant_leaf}
 use Rattle.c_typed_rows.specs.Types.{ExprTypes, InitLevel}
 use Rattle.c_typing_types.proofs.Good.{Good}
 use Rattle.c_typing_types.proofs.Steps.{Goes, after, ends, rule-goes, ruled, under}

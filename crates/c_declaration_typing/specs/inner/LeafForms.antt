@@ -5,7 +5,7 @@ use Rattle.c_typed.specs.declared.entity.Constant.{Constant}
 use Rattle.c_typed.specs.declared.expression.TypedExpr.{TypedExpr, out-TypedExpr, fold_out-TypedExpr}
 use Rattle.c_typed.specs.declared.expression.TypedForm.{TypedForm, out-TypedForm, map-TypedForm}
 use Rattle.c_typed.specs.declared.expression.TypedForm.{fold-TypedForm, fold_out-TypedForm}
-use Rattle.c_typing.specs.Leaves.{Leaf, LeafForm, function_form, has_value, leaf, leaf_form, leaf_step, place_form}
+use Rattle.c_declaration_typing.specs.Leaves.{Leaf, LeafForm, function_form, has_value, leaf, leaf_form, leaf_step, place_form}
 
 abbrev of_form : TypedForm → Ty → Constant → Leaf
 of_form = fold-TypedForm _ _ _ _ _ _ _ _ _ _ _ _ (λ _. tt) leaf_step (λ _. tt) (λ _. tt) (λ _. tt) (λ _. tt)

@@ -1,10 +1,10 @@
 //! Which expressions may give a global variable its value.
 
 ghost use Rattle.std.specs.Prelude.{◌≡◌};
-ghost use Rattle.c_typing.specs.Leaves as spec;
+ghost use Rattle.c_declaration_typing.specs.Leaves as spec;
 ghost use Rattle.c_types.specs.Kinds.{bound_of as bound_of_type};
 ghost use Rattle.c_typed.specs.declared.expression.TypedExpr.{out-TypedExpr};
-ghost use Rattle.c_typing.specs.inner.LeafForms.{leaf_node};
+ghost use Rattle.c_declaration_typing.specs.inner.LeafForms.{leaf_node};
 
 use c_tree::UnaryOperator;
 use c_typed::{Constant, Entity, TypedExpr, TypedForm};

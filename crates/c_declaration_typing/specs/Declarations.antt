@@ -29,7 +29,7 @@ use Rattle.c_scope.specs.Scopes.{bind}
 use Rattle.c_scope.specs.Walk.{Walk, ◌>>=◌, ◌>>◌, each, found, maybe, pure, rule, world}
 use Rattle.c_expr_typing.specs.declared.layered.LayeredDeclarator.{LayeredDeclarator}
 use Rattle.c_expr_typing.specs.Trees.{declared, typed_declarator, typed_spec}
-use Rattle.c_typing.specs.Initialisers.{text_of, typed_init}
+use Rattle.c_declaration_typing.specs.Initialisers.{text_of, typed_init}
 
 -- ---- the bound that an initialiser gives an array
 

@@ -20,7 +20,7 @@ use Rattle.c_scope.specs.Walk.{Walk, ◌>>=◌, ◌>>◌, each, pure, rule, worl
 use Rattle.c_operators.specs.Operators.{converts, takes_value}
 use Rattle.c_rules.specs.declared.place.Place.TheVariants.{Value}
 use Rattle.c_expr_typing.specs.Trees.{typed_expr}
-use Rattle.c_typing.specs.Leaves.{is_constant_leaf}
+use Rattle.c_declaration_typing.specs.Leaves.{is_constant_leaf}
 
 -- An initialiser has a target: the type of the part that it gives, or None where there is no part for it.
 

@@ -4,8 +4,8 @@ ghost use Rattle.std.specs.Prelude.{◌≡◌, map, IfOk};
 ghost use Rattle.std.specs.Option.{option_and_then, option_copied};
 ghost use Rattle.c_scope.specs.Walk.{each};
 ghost use Rattle.c_scope.specs.Walks.{Walks};
-ghost use Rattle.c_typing.specs.Initialisers as spec;
-ghost use Rattle.c_typing.specs.Initialisers.{typed_init};
+ghost use Rattle.c_declaration_typing.specs.Initialisers as spec;
+ghost use Rattle.c_declaration_typing.specs.Initialisers.{typed_init};
 
 use crate::leaves::is_constant_leaf;
 use c_expr_typing::expression;

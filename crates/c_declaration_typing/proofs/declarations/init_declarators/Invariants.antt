@@ -1,8 +1,8 @@
 use Rattle.std.proofs.Common.{◌≡◌, drop, map}
 use Rattle.c_scope.specs.Walk.{each}
 use Rattle.c_scope.specs.inner.Lists.{each_from}
-use Rattle.c_typing.specs.Declarations.{typed_init_declarator}
-use Rattle.c_typing.proofs.declarations.init_declarators.Given as goal
+use Rattle.c_declaration_typing.specs.Declarations.{typed_init_declarator}
+use Rattle.c_declaration_typing.proofs.declarations.init_declarators.Given as goal
 
 -- what is found and what is left are the whole list
 abbrev pub invariant-loop-one : goal.invariant-loop-one

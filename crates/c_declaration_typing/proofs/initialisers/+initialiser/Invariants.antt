@@ -4,8 +4,8 @@ use denote.Param.Weighed.{most}
 use Rattle.c_tree.specs.declared.statement.Init.{size-Init}
 use Rattle.c_scope.specs.Walk.{each}
 use Rattle.c_scope.specs.inner.Lists.{each_from}
-use Rattle.c_typing.specs.Initialisers.{parts_from, typed_init}
-use Rattle.c_typing.proofs.initialisers.+initialiser.Given as goal
+use Rattle.c_declaration_typing.specs.Initialisers.{parts_from, typed_init}
+use Rattle.c_declaration_typing.proofs.initialisers.+initialiser.Given as goal
 
 -- Each call is of a part, or of the same tree by a function with a lesser rest.
 

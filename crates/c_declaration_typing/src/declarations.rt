@@ -5,7 +5,7 @@ ghost use Rattle.std.specs.Option.{option_copied};
 ghost use Rattle.c_types.specs.Kinds.{function_of};
 ghost use Rattle.c_scope.specs.Walk.{each};
 ghost use Rattle.c_scope.specs.Walks.{Walks};
-ghost use Rattle.c_typing.specs.Declarations as spec;
+ghost use Rattle.c_declaration_typing.specs.Declarations as spec;
 
 use crate::initialisers::{initialiser, text_of};
 use c_expr_typing::{LayeredDeclarator, declarator, spec};
@@ -268,7 +268,7 @@ fn init_declarators(
 ///
 /// `Broken`, at the first rule that is broken. `Memory`, where no memory is left.
 #[tactic(auto, unfolding(crate::specs::Declarations::typed_decl))]
-pub(crate) fn declaration(
+pub fn declaration(
     alloc: Global,
     world: &mut World,
     is_global: bool,
@@ -358,7 +358,7 @@ fn type_declarator(
 ///
 /// `Broken`, at the first rule that is broken. `Memory`, where no memory is left.
 #[tactic(auto, using(c_scope::specs::inner::Lists::lists))]
-pub(crate) fn type_declarators(
+pub fn type_declarators(
     alloc: Global,
     world: &mut World,
     base: &Ty,

@@ -1,6 +1,6 @@
 use Rattle.std.proofs.Common.{◌+◌, ◌*◌}
 use Rattle.c_typed.specs.declared.expression.TypedExpr.{size-TypedExpr}
-use Rattle.c_typing.proofs.leaves.+place.Given as goal
+use Rattle.c_declaration_typing.proofs.leaves.+place.Given as goal
 
 abbrev pub decreases-is_place : goal.decreases-is_place
 decreases-is_place l = 2 * size-TypedExpr l.e.now + 1

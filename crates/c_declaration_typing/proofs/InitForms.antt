@@ -6,7 +6,7 @@ use Rattle.c_tree.specs.declared.statement.Init.{Init, fold-roll-Init}
 use Rattle.c_tree.specs.declared.statement.Init.TheOpen.{Init-F}
 use Rattle.c_tree.specs.declared.statement.Init.TheVariants as raw_init
 use Rattle.c_scope.specs.declared.world.World.{World}
-use Rattle.c_typing.specs.Initialisers.{OfInit, braces, given, init_step, typed_init}
+use Rattle.c_declaration_typing.specs.Initialisers.{OfInit, braces, given, init_step, typed_init}
 
 pub init-Expr : (is_global : Bool) (e : Expr) (to : Option Ty) (w : World)
     → typed_init is_global (raw_init.Expr e) to w ≡ given is_global to e w

@@ -1,0 +1,4 @@
+pub mod Leaves
+pub mod Initialisers
+pub mod Declarations
+pub mod inner
