@@ -1,20 +1,13 @@
 -- Whole bodies, from their parts.
-use Rattle.std.proofs.Common.{◌≡◌, ◌∙◌, ℕ, max, List, [], ◌∷◌, ◌++◌, length, ap, sym, subst, arith, Result, Ok, Err}
-use Rattle.core_ir.specs.declared.instr.Instr.{Instr}
+use Rattle.std.proofs.Common.{◌≡◌, ◌∙◌, ℕ, max, [], ◌∷◌, ◌++◌, length, ap, subst, arith, Result, Ok, Err}
 use Rattle.elab_emit.specs.Emits.{IsSound, Stops}
 use Rattle.elab_emit.specs.declared.emitter.Trouble.{Trouble}
 use Rattle.elab_emit.specs.declared.emitter.Trouble.TheVariants.{TooLong, Memory}
-use Rattle.elab_pieces.specs.Lines.{Piece, PieceCode, all_joined, led, plain_lines}
-use Rattle.elab.specs.declared.body.Body.{Body}
-use Rattle.elab.specs.inner.Bodies.{Grows, PieceOutcome, PutAll, Reaches, piece_at}
+use Rattle.elab_pieces.specs.Lines.{Piece, PieceCode, all_joined, led}
+use Rattle.elab_statements.specs.declared.body.Body.{Body}
+use Rattle.elab_statements.specs.Bodies.{PieceOutcome, piece_at}
+use Rattle.elab_statements.specs.inner.Pieces.{Reaches, led_length, reaches_end, reaches_start, reaches_step, reaches_stop}
 use Rattle.elab.specs.inner.Programs.{BodyOutcome, IsWhole}
-use Rattle.elab.proofs.Joined.{reaches_end, reaches_start, reaches_step, reaches_stop}
-use Rattle.elab.proofs.Lead.{led_does, led_length}
-
--- instructions as a piece
-pub put_piece : (old new : Body) (is : List Instr) (r : Result (Unit {0}) Trouble) → PutAll old is r new → PieceOutcome old (piece_at old (plain_lines is)) r new
-put_piece old new is (Ok u) h = subst (λ js. Grows old js 0 old.out.slot new) (sym (led_does 0 0 is)) h
-put_piece old new is (Err e) h = subst (λ js. Stops old.out js e) (sym (led_does 0 0 is)) h
 
 -- from no code on
 pub whole : (b new : Body) (c : PieceCode) (slots : ℕ) (r : Result (Unit {0}) Trouble)

@@ -1,26 +1,17 @@
 -- The initialisers of globals and strings, one behind the other.
-use Rattle.std.proofs.Common.{◌≡◌, ◌∙◌, ℕ, suc, false, ◌+◌, ◌<◌, List, [], ◌∷◌, ◌++◌, length, drop, get_or, ap, sym, subst, arith, Some, Ok, Err}
+use Rattle.std.proofs.Common.{◌≡◌, ◌∙◌, ℕ, suc, ◌+◌, ◌<◌, List, [], ◌∷◌, ◌++◌, length, drop, get_or, ap, sym, subst, arith, Some, Ok, Err}
 use Rattle.std.proofs.lemmas.List.{at_drop_more}
-use Rattle.c_typed.specs.declared.statement.TypedInit.{out-TypedInit, out-roll-TypedInit}
-use Rattle.c_typed.specs.declared.statement.TypedInit.TheOpen.{TypedInit-F}
 use Rattle.c_typed.specs.declared.statement.TypedInit.TheVariants as init
-use Rattle.elab_rows.specs.Addresses.{global_address}
 use Rattle.elab_emit.specs.Emits.{IsSound, Stops}
 use Rattle.elab_emit.specs.declared.emitter.Trouble.{Trouble}
-use Rattle.elab_rows.specs.Units.{scalars}
 use Rattle.elab_rows.specs.declared.scope.Scope.{Scope}
 use Rattle.elab_pieces.specs.Entry.{globals_initialised, optional_given, strings_initialised}
 use Rattle.elab_pieces.specs.Globals.{Global, string_type}
-use Rattle.elab_pieces.specs.Initialisers.{given_leaves, initialised_at, leaf_codes, leaves}
-use Rattle.elab_pieces.specs.Lines.{Piece, PieceCode, all_full, joined, joined_made, led}
-use Rattle.elab.specs.declared.body.Body.{Body}
-use Rattle.elab.specs.declared.targets.Base.TheVariants as base
-use Rattle.elab.specs.declared.targets.Target.{Target}
-use Rattle.elab.specs.inner.Bodies.{PieceOutcome, Reaches, piece_at}
-use Rattle.elab.specs.inner.Leaves.{RunOutcome, text_lines}
-use Rattle.elab.proofs.InitForms.{leaves-Text}
-use Rattle.elab.proofs.Joined.{joined_step, joined_stop, reaches_end}
-use Rattle.elab.proofs.LeafLines.{joined_assoc, joined_none, text_is}
+use Rattle.elab_pieces.specs.Lines.{Piece, PieceCode, joined, joined_made, led}
+use Rattle.elab_statements.specs.declared.body.Body.{Body}
+use Rattle.elab_statements.specs.Bodies.{PieceOutcome, piece_at}
+use Rattle.elab_statements.specs.inner.Pieces.{Reaches, joined_assoc, joined_none, joined_step, joined_stop, reaches_end}
+use Rattle.elab.specs.inner.Programs.{RunOutcome}
 
 module _ (scope : Scope) where
   pub globals_append : (g : ℕ) (vs ws : List Global) (place slot : ℕ) → globals_initialised scope g (vs ++ ws) place slot
@@ -36,19 +27,9 @@ module _ (scope : Scope) where
       ∙ joined_assoc first (globals_initialised scope (suc g) vs) (globals_initialised scope (suc g + length vs) ws) place slot
       ∙ ap (λ n. joined (joined first (globals_initialised scope (suc g) vs)) (globals_initialised scope n ws) place slot) e
 
-  abbrev pub string_target : ℕ → List ℕ → Target
-  string_target g s = record { base = base.Global g; ty = string_type s; all = false }
-
-  -- a string's units, as a text in its object
-  pub string_is : (g : ℕ) (s : List ℕ) → optional_given scope g (string_type s) (Some (init.Text s))
-      ≡ text_lines (string_target g s) (s ++ 0 ∷ []) (scalars scope.structs (string_type s)) 0
-  string_is g s =
-      let t = string_type s in
-      let x = string_target g s in
-      let opened : out-TypedInit (init.Text s) ≡ TypedInit-F.Text s = ap out-TypedInit (sym (init.rolls-Text s)) ∙ out-roll-TypedInit (TypedInit-F.Text s) in
-      ap (λ o. all_full (initialised_at scope t (global_address g) (given_leaves (leaves scope.structs (init.Text s) t 0)) o)) opened
-      ∙ ap (λ ls. all_full (leaf_codes scope t (global_address g) (given_leaves ls))) (leaves-Text scope.structs s t 0)
-      ∙ sym (text_is scope x (s ++ 0 ∷ []) (scalars scope.structs t) 0)
+  -- what a string adds in its object
+  abbrev pub string_given : ℕ → List ℕ → PieceCode
+  string_given g s = optional_given scope g (string_type s) (Some (init.Text s))
 
 -- ---- loops over globals and strings
 
@@ -77,13 +58,11 @@ module _ (scope : Scope) (ss : List (List ℕ)) (start : Body) (all : Piece) (no
     (h : Reaches start all now (piece_at now (strings_initialised scope g (drop i ss)))) where
   module _ (d : List ℕ) (within : i < length ss) (next : Body) where
     abbrev text : PieceCode
-    text = text_lines (string_target scope g (get_or ss i d)) (get_or ss i d ++ 0 ∷ []) (scalars scope.structs (string_type (get_or ss i d))) 0
+    text = string_given scope g (get_or ss i d)
 
     next_string : Reaches start all now (piece_at now (joined text (strings_initialised scope (suc g) (drop (i + 1) ss))))
     next_string =
-        subst (λ c. Reaches start all now (piece_at now c))
-        (at_drop_more (strings_initialised scope g) ss i d within
-        ∙ (λ j. joined (string_is scope g (get_or ss i d) j) (strings_initialised scope (suc g) (drop (i + 1) ss)))) h
+        subst (λ c. Reaches start all now (piece_at now c)) (at_drop_more (strings_initialised scope g) ss i d within) h
 
     pub strings_further : PieceOutcome now (piece_at now text) (Ok tt) next → IsSound next.out → (n : ℕ) → n ≡ g + 1
         → Reaches start all next (piece_at next (strings_initialised scope n (drop (i + 1) ss)))

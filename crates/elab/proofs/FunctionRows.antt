@@ -17,10 +17,10 @@ use Rattle.elab_rows.specs.Scope.{slots_behind, standings}
 use Rattle.elab_pieces.specs.Functions.{body_code, frame_locals, function_code, function_made, function_type, made_in, made_of, parameter_copies}
 use Rattle.elab_pieces.specs.Lines.{Piece}
 use Rattle.elab_pieces.specs.Statements.{block_code}
-use Rattle.elab.specs.declared.body.Body.{Body}
+use Rattle.elab_statements.specs.declared.body.Body.{Body}
 use Rattle.elab.specs.declared.frames.Frame.{Frame}
 use Rattle.elab.specs.inner.Programs.{BodyOutcome, FunctionOutcome, IsFrame, IsFunction, IsWhole, frame_stands, inside}
-use Rattle.elab.proofs.Lead.{led_length}
+use Rattle.elab_statements.specs.inner.Pieces.{led_length}
 
 -- what `frame_of` finds
 abbrev pub FrameIs : List Local → Option Frame → Type 0

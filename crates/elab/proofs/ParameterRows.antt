@@ -7,9 +7,9 @@ use Rattle.elab_emit.specs.declared.emitter.Trouble.{Trouble}
 use Rattle.elab_rows.specs.declared.scope.Standing.{Standing}
 use Rattle.elab_pieces.specs.Functions.{copy_by, parameter_copies}
 use Rattle.elab_pieces.specs.Lines.{Piece, PieceCode, joined, no_lines}
-use Rattle.elab.specs.declared.body.Body.{Body}
-use Rattle.elab.specs.inner.Bodies.{PieceOutcome, Reaches, piece_at}
-use Rattle.elab.proofs.Joined.{joined_step, joined_stop, reaches_end}
+use Rattle.elab_statements.specs.declared.body.Body.{Body}
+use Rattle.elab_statements.specs.Bodies.{PieceOutcome, piece_at}
+use Rattle.elab_statements.specs.inner.Pieces.{Reaches, joined_step, joined_stop, reaches_end}
 
 no_locals : (s : ℕ) (ts : List Ty) → parameter_copies s ts [] ≡ no_lines
 no_locals s [] = refl

@@ -1,4 +1,1 @@
-pub mod Bodies
-pub mod Jumps
-pub mod Leaves
 pub mod Programs

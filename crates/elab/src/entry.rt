@@ -1,28 +1,24 @@
 //! The entry function: it stores what globals and strings begin with, and calls `main`.
 
-ghost use Rattle.std.specs.Prelude.{◌≡◌, ◌+◌, [], ◌∷◌, codes, length};
+ghost use Rattle.std.specs.Prelude.{◌≡◌, ◌+◌, [], ◌∷◌, Some, codes, length};
 ghost use Rattle.std.specs.Option.{option_copied};
+ghost use Rattle.c_typed.specs.declared.statement.TypedInit.TheVariants as init;
 ghost use Rattle.elab_pieces.specs.Entry as spec;
 ghost use Rattle.elab_pieces.specs.Globals as globals;
-ghost use Rattle.elab.specs.inner.Bodies.{PieceOutcome, PutAll, piece_at};
-ghost use Rattle.elab.specs.inner.Leaves.{RunOutcome};
-ghost use Rattle.elab.specs.inner.Programs.{FunctionOutcome};
+ghost use Rattle.elab_statements.specs.Bodies.{PieceOutcome, PutAll, piece_at};
+ghost use Rattle.elab.specs.inner.Programs.{FunctionOutcome, RunOutcome};
 ghost use Rattle.elab_emit.specs.Emits.{IsSound};
 ghost use Rattle.elab_rows.specs.Scope.{function_number};
 
-use crate::body::Body;
 use crate::frames::Frame;
 use crate::functions::Elaborated;
 use crate::globals::string_type;
-use crate::initialisers::initialise;
-use crate::offsets::next_offset;
-use crate::targets::{Base, Target};
-use crate::texts::text;
 use c_typed::{Entity, Typed, TypedInit, TypedInitDeclarator, TypedItem};
 use c_types::{FnTy, Ty, copy_type};
 use core_ir::Instr;
 use elab_emit::{Trouble, put};
 use elab_rows::Scope;
+use elab_statements::{Base, Body, Target, initialise, initialise_text, next_offset};
 use sqlite_items::Items;
 use std::alloc::Global;
 
@@ -113,6 +109,26 @@ fn variables(body: &mut Body, scope: &Scope, items: &[TypedItem]) -> Result<(), 
     Ok(())
 }
 
+/// The units of a string, whose object is this global.
+fn string_object(
+    alloc: Global,
+    body: &mut Body,
+    scope: &Scope,
+    g: u32,
+    bytes: &[u8],
+) -> Result<(), Trouble>
+    requires { IsSound body.old.out }
+    ensures made { PieceOutcome body.old (piece_at body.old (spec.optional_given scope.now g (globals.string_type bytes.now) (Some (init.Text bytes.now)))) result body.new }
+    ensures sound { IsSound body.new.out }
+{
+    let target = Target {
+        base: Base::Global(g),
+        ty: string_type(alloc, bytes)?,
+        all: false,
+    };
+    initialise_text(body, scope, &target, bytes)
+}
+
 /// The units of a source's strings.
 fn strings(
     alloc: Global,
@@ -126,12 +142,7 @@ fn strings(
 {
     let mut g = scope.first_string;
     for bytes in strings {
-        let target = Target {
-            base: Base::Global(g),
-            ty: string_type(alloc, bytes.as_slice())?,
-            all: false,
-        };
-        text(body, scope, &target, &target.ty, 0, bytes.as_slice())?;
+        string_object(alloc, body, scope, g, bytes.as_slice())?;
         g = next_offset(g, 1)?;
     }
     Ok(())

@@ -3,23 +3,20 @@
 ghost use Rattle.std.specs.Prelude.{◌≡◌, ◌<◌, IfOk, MatchOption, OnOk};
 ghost use Rattle.c_types.specs.declared.ty.FnTy.{out-FnTy};
 ghost use Rattle.elab_pieces.specs.Functions as spec;
-ghost use Rattle.elab.specs.inner.Bodies.{PieceOutcome, PutAll, piece_at};
+ghost use Rattle.elab_statements.specs.Bodies.{PieceOutcome, PutAll, piece_at};
 ghost use Rattle.core_ir.specs.Valid.{most_frame_units};
 ghost use Rattle.core_ir.specs.declared.program.Function.{Function as CoreFunction};
-ghost use Rattle.elab_pieces.specs.Lines.{full};
 ghost use Rattle.elab_pieces.specs.Statements.{block_code};
 ghost use Rattle.elab.specs.inner.Programs.{BodyOutcome, FunctionOutcome, IsFunction, bare, frame_stands, inside, is_laid_out};
 ghost use Rattle.elab_emit.specs.Emits.{IsSound};
 
-use crate::body::{Body, leave};
 use crate::frames::{Frame, frame_of, local_standings};
-use crate::statements::block;
-use crate::targets::{Base, Target, store_part};
 use c_typed::TypedFn;
 use c_types::{FnTy, Ty, copy_type, function_of};
 use core_ir::{Function, Instr};
-use elab_emit::{Trouble, copy_function, put, slot};
+use elab_emit::{Trouble, copy_function, put};
 use elab_rows::{Scope, Standing};
+use elab_statements::{Body, function_block, leave, parameter_copy};
 use sqlite_items::Items;
 use std::alloc::{AllocError, Global};
 
@@ -32,24 +29,6 @@ pub(crate) struct Elaborated {
     pub(crate) ty: FnTy,
     pub(crate) body: Body,
     pub(crate) frame: Option<Frame>,
-}
-
-/// The copy of a parameter to the frame.
-fn parameter_copy(body: &mut Body, s: u32, v: u32, ty: &Ty) -> Result<(), Trouble>
-    requires { IsSound body.old.out }
-    ensures made { PieceOutcome body.old (piece_at body.old (full (spec.parameter_copy s v ty.now))) result body.new }
-    ensures sound { IsSound body.new.out }
-{
-    let target = Target {
-        base: Base::Local(v),
-        ty: copy_type(ty)?,
-        all: true,
-    };
-    body.out.register = 0;
-    let a = slot(&mut body.out, s)?;
-    store_part(&mut body.out, &target, ty, None, a)?;
-    body.registers = body.registers.max(body.out.register);
-    Ok(())
 }
 
 /// The copies of the parameters that are frame locals.
@@ -111,10 +90,9 @@ fn whole_body(body: &mut Body, scope: &Scope, ty: &FnTy, function: &TypedFn) -> 
     ensures made { PieceOutcome body.old (piece_at body.old (spec.body_code scope.now.has_frame (spec.parameter_copies 0 (out-FnTy ty.now).params scope.now.locals) (block_code scope.now function.now.block))) result body.new }
     ensures sound { IsSound body.new.out }
 {
-    let mut jumps = Items::new(body.out.alloc);
     enter(body, scope.has_frame)?;
     parameter_copies(body, ty.params.as_slice(), scope.locals.as_slice())?;
-    block(body, scope, &function.block, &mut jumps)?;
+    function_block(body, scope, &function.block)?;
     leave(body, scope.has_frame, None)
 }
 

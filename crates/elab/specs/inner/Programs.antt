@@ -16,8 +16,9 @@ use Rattle.elab_pieces.specs.Entry.{entry_function}
 use Rattle.elab_pieces.specs.Globals.{globals, laid_out}
 use Rattle.elab_pieces.specs.Program.{entry_scope}
 use Rattle.elab_pieces.specs.Limits.{all_within, unless}
-use Rattle.elab_pieces.specs.Lines.{Piece, led}
-use Rattle.elab.specs.declared.body.Body.{Body}
+use Rattle.elab_pieces.specs.Lines.{Piece, PieceCode, led}
+use Rattle.elab_statements.specs.Bodies.{PieceOutcome, piece_at}
+use Rattle.elab_statements.specs.declared.body.Body.{Body}
 use Rattle.elab.specs.declared.programs.Functions.{Functions}
 use Rattle.elab.specs.declared.error.ElabRefusal.{ElabRefusal}
 use Rattle.elab.specs.declared.error.ElabRefusal.TheVariants as refusal
@@ -132,6 +133,11 @@ FunctionsOutcome fs (Err refusal.Memory) = Unit {0}
 FunctionsOutcome fs (Err (refusal.Limit which)) = (next : Option LimitName) → functions_limit fs next ≡ Some which
 
 -- ---- globals
+
+-- the pieces of some globals are there, and this is the number of the next
+abbrev pub RunOutcome : Body → PieceCode → ℕ → Result ℕ Trouble → Body → Type 0
+RunOutcome old c behind (Ok at) new = PieceOutcome old (piece_at old c) (Ok tt) new × (at ≡ behind)
+RunOutcome old c behind (Err e) new = PieceOutcome old (piece_at old c) (Err e) new
 
 -- where the last global may end
 abbrev pub last_address : ℕ

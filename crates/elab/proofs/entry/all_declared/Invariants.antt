@@ -1,7 +1,8 @@
 use Rattle.std.proofs.Common.{◌≡◌, ◌+◌, [], drop, length}
 use Rattle.elab_pieces.specs.Entry.{globals_initialised}
 use Rattle.elab_pieces.specs.Globals.{declared_globals}
-use Rattle.elab.specs.inner.Bodies.{Reaches, piece_at}
+use Rattle.elab_statements.specs.inner.Pieces.{Reaches}
+use Rattle.elab_statements.specs.Bodies.{piece_at}
 use Rattle.elab.proofs.entry.all_declared.Given as goal
 
 -- what is there and what is left are all initialisers

@@ -3,8 +3,9 @@ use Rattle.std.proofs.Common.{subst, Ok, Err}
 use Rattle.elab_pieces.specs.Entry.{globals_initialised, start, strings_initialised}
 use Rattle.elab_pieces.specs.Globals.{globals}
 use Rattle.elab_pieces.specs.Lines.{plain_lines}
-use Rattle.elab.specs.inner.Bodies.{PieceOutcome, piece_at}
-use Rattle.elab.proofs.BodyRows.{put_piece, three_first, three_last, three_second}
+use Rattle.elab_statements.specs.Bodies.{PieceOutcome, piece_at}
+use Rattle.elab_statements.specs.inner.Pieces.{put_piece}
+use Rattle.elab.proofs.BodyRows.{three_first, three_last, three_second}
 use Rattle.elab.proofs.entry.entry_body.Goals as goal
 
 pub returns-in_err-variables-clause-made : goal.returns-in_err-variables-clause-made

@@ -3,7 +3,7 @@ use Rattle.std.specs.Option.{option_copied}
 use Rattle.c_types.specs.declared.ty.Ty.{Ty}
 use Rattle.c_typed.specs.declared.statement.TypedInit.{TypedInit}
 use Rattle.elab_pieces.specs.Entry.{optional_given}
-use Rattle.elab.specs.inner.Bodies.{PieceOutcome, piece_at}
+use Rattle.elab_statements.specs.Bodies.{PieceOutcome, piece_at}
 use Rattle.elab.proofs.entry.optional.Goals as goal
 
 pub returns-clause-made : goal.returns-clause-made

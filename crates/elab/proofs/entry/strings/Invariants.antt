@@ -1,6 +1,7 @@
 use Rattle.std.proofs.Common.{drop}
 use Rattle.elab_pieces.specs.Entry.{strings_initialised}
-use Rattle.elab.specs.inner.Bodies.{Reaches, piece_at}
+use Rattle.elab_statements.specs.inner.Pieces.{Reaches}
+use Rattle.elab_statements.specs.Bodies.{piece_at}
 use Rattle.elab.proofs.entry.strings.Given as goal
 
 -- what is there and what is left are all strings

@@ -2,8 +2,8 @@ use Rattle.std.proofs.lemmas.Result.{err_from_is_err_and}
 use Rattle.std.proofs.Common.{◌+◌, [], ◌∷◌, length, drop, get_or, subst, arith, Ok, Err}
 use Rattle.elab_pieces.specs.Entry.{globals_initialised}
 use Rattle.elab_pieces.specs.Globals.{globals}
-use Rattle.elab.specs.inner.Bodies.{piece_at}
-use Rattle.elab.specs.inner.Leaves.{RunOutcome}
+use Rattle.elab_statements.specs.Bodies.{piece_at}
+use Rattle.elab.specs.inner.Programs.{RunOutcome}
 use Rattle.elab.proofs.EntryRows.{declaration_further, declaration_stops, globals_whole}
 use Rattle.elab.proofs.Turns.{globals_end, globals_turn}
 use Rattle.elab.proofs.entry.variables.Goals as goal

@@ -4,7 +4,7 @@ use Rattle.std.specs.List.{HoldsAt}
 use Rattle.elab_rows.specs.declared.scope.Standing.{Standing}
 use Rattle.std.proofs.lemmas.Result.{err_from_is_err_and}
 use Rattle.elab_pieces.specs.Functions.{copy_by, parameter_copies}
-use Rattle.elab.specs.inner.Bodies.{PieceOutcome, piece_at}
+use Rattle.elab_statements.specs.Bodies.{PieceOutcome, piece_at}
 use Rattle.elab.proofs.ParameterRows.{copies_further, copies_stop, copies_without}
 use Rattle.elab.proofs.functions.parameter_copies.Goals as goal
 

@@ -1,6 +1,7 @@
 use Rattle.std.proofs.Common.{drop}
 use Rattle.elab_pieces.specs.Functions.{parameter_copies}
-use Rattle.elab.specs.inner.Bodies.{Reaches, piece_at}
+use Rattle.elab_statements.specs.inner.Pieces.{Reaches}
+use Rattle.elab_statements.specs.Bodies.{piece_at}
 use Rattle.elab.proofs.functions.parameter_copies.Given as goal
 
 -- what is there and what is left are all copies

@@ -1,9 +1,9 @@
 use Rattle.std.proofs.lemmas.Result.{err_from_is_err_and}
 use Rattle.std.proofs.Common.{◌≡◌, ◌∙◌, ◌+◌, [], ◌∷◌, ◌++◌, map, take, drop, get_or, ap, append_assoc, sym, subst, arith, Err}
+use Rattle.std.proofs.lemmas.List.{map-append}
 use Rattle.elab_pieces.specs.Functions.{function_code}
 use Rattle.elab_pieces.specs.Program.{definitions}
 use Rattle.elab.specs.inner.Programs.{AddsAll, HoldsAll, bare}
-use Rattle.elab.proofs.LeafLines.{map_append}
 use Rattle.elab.proofs.ProgramRows.{adds_stop}
 use Rattle.elab.proofs.Turns.{definitions_all, definitions_split, definitions_turn}
 use Rattle.elab.proofs.programs.add_definitions.Goals as goal
@@ -19,8 +19,8 @@ returns-in_err-add_item-clause-added c = λ fs h.
     let before = fs ++ map g (definitions (take i xs)) in
     let split : map g (definitions xs) ≡ map g (definitions (take i xs)) ++ (map g (definitions (x ∷ [])) ++ map g (definitions (drop (i + 1) xs))) =
     ap (map g) (definitions_split xs i c.item-item.result (omega arith))
-    ∙ map_append g (definitions (take i xs)) (definitions (x ∷ []) ++ definitions (drop (i + 1) xs))
-    ∙ ap (λ ys. map g (definitions (take i xs)) ++ ys) (map_append g (definitions (x ∷ [])) (definitions (drop (i + 1) xs))) in
+    ∙ map-append g (definitions (take i xs)) (definitions (x ∷ []) ++ definitions (drop (i + 1) xs))
+    ∙ ap (λ ys. map g (definitions (take i xs)) ++ ys) (map-append g (definitions (x ∷ [])) (definitions (drop (i + 1) xs))) in
     let k = c.in_err-add_item.ensures.added before (c.loop-item.invariant.holds fs h) in
     let k1 = subst (λ s. AddsAll before (map (function_code s) (definitions (c.item-item.result ∷ []))) (Err e) new) c.loop-item.invariant.scope k in
     let k2 = subst (λ y. AddsAll before (map g (definitions (y ∷ []))) (Err e) new) c.item-item.is k1 in
@@ -43,7 +43,7 @@ loop-item-preserved c =
           let k2 = subst (λ y. HoldsAll new (before ++ map g (definitions (y ∷ [])))) c.item-item.is k1 in
           let same : before ++ map g (definitions (x ∷ [])) ≡ fs ++ map g (definitions (take (i + 1) xs)) =
           append_assoc fs (map g (definitions (take i xs))) (map g (definitions (x ∷ [])))
-          ∙ ap (λ ys. fs ++ ys) (sym (map_append g (definitions (take i xs)) (definitions (x ∷ []))))
+          ∙ ap (λ ys. fs ++ ys) (sym (map-append g (definitions (take i xs)) (definitions (x ∷ []))))
           ∙ ap (λ ys. fs ++ map g ys) (sym (definitions_turn xs i c.item-item.result (omega arith))) in
           subst (λ ys. HoldsAll new ys) same k2;
       scope = c.in_ok-add_item.ensures.scope ∙ c.loop-item.invariant.scope;

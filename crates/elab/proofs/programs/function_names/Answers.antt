@@ -1,7 +1,7 @@
 use Rattle.std.proofs.Common.{◌≡◌, ◌∙◌, ◌+◌, [], ◌∷◌, ◌++◌, map, drop, get_or, ap, sym, arith, append_assoc}
+use Rattle.std.proofs.lemmas.List.{map-append}
 use Rattle.c_typed.specs.declared.unit.TypedFn.{TypedFn}
 use Rattle.elab_pieces.specs.Program.{definitions, name_of}
-use Rattle.elab.proofs.LeafLines.{map_append}
 use Rattle.elab.proofs.Turns.{definitions_next}
 use Rattle.elab.proofs.programs.function_names.Goals as goal
 
@@ -17,5 +17,5 @@ loop-item-preserved c =
     let pushed : c.push_name.new.names ≡ names ++ mine =
     c.in_ok-push_name.ensures ∙ ap (λ y. names ++ map g (definitions (y ∷ []))) c.item-item.is in
     let turn : map g (definitions (drop i xs)) ≡ mine ++ rest =
-    ap (map g) (definitions_next xs i x (omega arith)) ∙ map_append g (definitions (get_or xs i x ∷ [])) (definitions (drop (i + 1) xs)) in
+    ap (map g) (definitions_next xs i x (omega arith)) ∙ map-append g (definitions (get_or xs i x ∷ [])) (definitions (drop (i + 1) xs)) in
     ap (λ ns. ns ++ rest) pushed ∙ append_assoc names mine rest ∙ ap (λ ys. names ++ ys) (sym turn) ∙ c.loop-item.invariant

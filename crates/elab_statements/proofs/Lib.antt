@@ -1,0 +1,17 @@
+pub mod StatementForms
+pub mod Lead
+pub mod Joined
+pub mod Items
+pub mod Choices
+pub mod Loops
+pub mod InitForms
+pub mod DoLoops
+pub mod Others
+pub mod ForLoops
+pub mod Settled
+pub mod LeafLines
+pub mod MissingLoops
+pub mod ScalarLists
+pub mod FullRows
+pub mod BraceLoops
+pub mod InitRows

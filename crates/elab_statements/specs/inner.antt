@@ -1,0 +1,4 @@
+pub mod Expressions
+pub mod Jumps
+pub mod Leaves
+pub mod Pieces
