@@ -1,5 +1,5 @@
 -- What a thread does in its turn is what the turn does to the state.
-use Rattle.std.proofs.Common.{◌≡◌, ℕ, Bool, true, false, List, [], ◌∷◌, ◌++◌, length, map, refl, sym, subst, ap, ◌∙◌, Some, slice_get, slice_set}
+use Rattle.std.proofs.Common.{◌≡◌, ℕ, Bool, true, false, List, [], ◌∷◌, ◌++◌, length, map, refl, sym, ap, ◌∙◌, Some, slice_get, slice_set}
 use Rattle.std.proofs.lemmas.List.{append-nil}
 use Rattle.meaning.specs.declared.action.Action.{Action}
 use Rattle.meaning.specs.declared.action.Reply.{Reply}
@@ -15,7 +15,7 @@ use Rattle.machine.specs.Run.{cuts, turns}
 use Rattle.machine.specs.Store.{remembered}
 use Rattle.machine.specs.Trace.{traced, turn_records}
 use Rattle.region_seq.specs.Bounded.{behind}
-use Rattle.thread_engine.specs.Quiet.{IsQuietTurn, TakesQuietTurn}
+use Rattle.thread_engine.specs.Quiet.{IsQuietTurn}
 use Rattle.machine.specs.Threads.{Told}
 use Rattle.system.specs.declared.memories.Memories.{Memories}
 use Rattle.system.proofs.SeatLemmas.{set_same}
@@ -66,45 +66,26 @@ quiet_told : (code : Code) (t : ℕ) (thread thread' : Thread Value) (m : Memori
 quiet_told code t thread thread' m quiet =
     ap (λ (a : Action). resume code t thread a (answer_of m a)) quiet.asks ∙ quiet.goes
 
-module _ (code : Code) (t n : ℕ) (thread thread' : Thread Value) (m : Memories) (taken : Bool) where
-  quiet : taken ≡ true → n ≡ t → TakesQuietTurn taken code n thread thread' → IsQuietTurn code t thread thread'
-  quiet is same turn =
-      subst (λ (k : ℕ). IsQuietTurn code k thread thread') same
-      (subst (λ (b : Bool). TakesQuietTurn b code n thread thread') is turn)
+pub quietly_taken : (code : Code) (t : ℕ) (thread thread' : Thread Value) (m : Memories) (threads : List (Thread Value))
+    → length threads ≡ m.region.threads
+    → is_live thread ≡ true
+    → IsQuietTurn code t thread thread'
+    → (turns (setting_with code m) (state_with m threads) t (Some thread)).after
+    ≡ state_with m (slice_set threads t thread')
+quietly_taken code t thread thread' m threads len live quiet =
+    taken code t thread thread' m m threads len live
+    (sym (ap (λ (told : Told Value). told.thread) (quiet_told code t thread thread' m quiet)))
+    (rw (quiet.asks) refl) (rw (quiet.asks) refl)
 
-  pub quiet_thread :
-      taken ≡ true
-      → n ≡ t
-      → TakesQuietTurn taken code n thread thread'
-      → thread' ≡ (told_of code t thread m).thread
-  quiet_thread is same turn =
-      sym (ap (λ (told : Told Value). told.thread) (quiet_told code t thread thread' m (quiet is same turn)))
-
-  pub quiet_region :
-      taken ≡ true
-      → n ≡ t
-      → TakesQuietTurn taken code n thread thread'
-      → m.region ≡ behind m.region (next code t thread)
-  quiet_region is same turn = rw ((quiet is same turn).asks) refl
-
-  pub quiet_plain :
-      taken ≡ true
-      → n ≡ t
-      → TakesQuietTurn taken code n thread thread'
-      → m.plain ≡ remembered m.plain (next code t thread)
-  quiet_plain is same turn = rw ((quiet is same turn).asks) refl
-
-  pub quiet_records :
-      (before records : List Record)
-      → taken ≡ true
-      → n ≡ t
-      → TakesQuietTurn taken code n thread thread'
-      → records ≡ added before (Steps t 1)
-      → records ≡ added_all before
-      (turn_records t (next code t thread) (answer_of m (next code t thread)) (told_of code t thread m).notes)
-  quiet_records before records is same turn steps =
-      let q = quiet is same turn in
-      rw (steps, quiet_told code t thread thread' m q, q.asks) refl
+pub quietly_recorded : (code : Code) (t : ℕ) (thread thread' : Thread Value) (m : Memories) (threads : List (Thread Value)) (records records' : List Record)
+    → length threads ≡ m.region.threads
+    → is_live thread ≡ true
+    → IsQuietTurn code t thread thread'
+    → records' ≡ added records (Steps t 1)
+    → records' ≡ traced records ((turns (setting_with code m) (state_with m threads) t (Some thread)).step ∷ [])
+quietly_recorded code t thread thread' m threads records records' len live quiet is =
+    recorded code t thread m threads records records' len live
+    (rw (is, quiet_told code t thread thread' m quiet, quiet.asks) refl)
 
 -- a turn of a thread that isn't live has no records
 pub unrecorded : (code : Code) (t : ℕ) (thread : Thread Value) (m : Memories) (threads : List (Thread Value)) (records : List Record)

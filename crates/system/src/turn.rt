@@ -26,12 +26,14 @@ use trace::Trace;
 /// The most records of a turn: its action, a transfer, and a function for each parameter.
 const MOST_RECORDS: usize = 11;
 
-/// A turn of live thread `t`, which is recorded, with its notes put in place of these.
+/// A turn of live thread `t`, which is recorded, with its notes put in place of these. It isn't inlined: most turns are
+/// quiet, and their loop is faster without it.
 ///
 /// # Errors
 ///
 /// `AllocError`. The thread, the inputs and the trace are as before.
-#[tactic(auto, using(crate::proofs::AnswersFit::answers_fit, crate::proofs::AnswersFit::slots_are_there, crate::proofs::Turns::told_records, crate::proofs::Turns::quiet_thread, crate::proofs::Turns::quiet_region, crate::proofs::Turns::quiet_plain, crate::proofs::Turns::quiet_records))]
+#[tactic(auto, using(crate::proofs::AnswersFit::answers_fit, crate::proofs::AnswersFit::slots_are_there, crate::proofs::Turns::told_records))]
+#[inline(never)]
 fn take_turn(
     code: &Code,
     t: u8,
@@ -45,6 +47,7 @@ fn take_turn(
     requires number { thread.old.number ≡ t }
     requires few { t < 16 }
     requires slots { memories.old.region.slots ≤ most_slots }
+    requires spare { 11 ≤ trace.old.spare }
     ensures thread { OnOk result (thread.new.thread ≡ (told_of code.now t thread.old.thread memories.old).thread) }
     ensures number { thread.new.number ≡ t }
     ensures sound { IsSound code.now thread.new.thread }
@@ -58,11 +61,6 @@ fn take_turn(
     ensures kept { Keeps memories.old memories.new }
     ensures inputs { trace.new.inputs ≡ trace.old.inputs }
 {
-    trace.reserve(MOST_RECORDS)?;
-    if thread.take_quiet_turn(code) {
-        trace.push(Record::Steps { t, n: 1 });
-        return Ok(());
-    }
     let action = thread.next(code);
     let reply = memories.answer(action)?;
     thread.resume_into(code, action, reply, notes)?;
@@ -75,7 +73,7 @@ fn take_turn(
 /// # Errors
 ///
 /// `AllocError`. The trace is as before.
-#[tactic(auto, using(crate::proofs::Turns::taken, crate::proofs::Turns::recorded, crate::proofs::Turns::stays, crate::proofs::Turns::unrecorded))]
+#[tactic(auto, using(crate::proofs::Turns::taken, crate::proofs::Turns::recorded, crate::proofs::Turns::stays, crate::proofs::Turns::unrecorded, crate::proofs::Turns::quietly_taken, crate::proofs::Turns::quietly_recorded))]
 pub fn turn_seat(
     code: &Code,
     t: u8,
@@ -102,6 +100,11 @@ pub fn turn_seat(
 {
     match seat {
         Some(thread) if thread.is_live() => {
+            trace.reserve(MOST_RECORDS)?;
+            if thread.take_quiet_turn(code) {
+                trace.push(Record::Steps { t, n: 1 });
+                return Ok(());
+            }
             take_turn(code, t, thread, memories, notes, trace)?;
             Ok(())
         }
