@@ -1,6 +1,6 @@
 //! The code of functions.
 
-ghost use Rattle.std.specs.Prelude.{◌≡◌, ◌<◌, IfOk, MatchOption, OnOk};
+ghost use Rattle.std.specs.Prelude.{◌≡◌, ◌<◌, IfOk, MatchOption, OnOk, length};
 ghost use Rattle.c_types.specs.declared.ty.FnTy.{out-FnTy};
 ghost use Rattle.elab_pieces.specs.Functions as spec;
 ghost use Rattle.elab_statements.specs.Bodies.{PieceOutcome, PutAll, piece_at};
@@ -9,6 +9,7 @@ ghost use Rattle.core_ir.specs.declared.program.Function.{Function as CoreFuncti
 ghost use Rattle.elab_pieces.specs.Statements.{block_code};
 ghost use Rattle.elab.specs.inner.Programs.{BodyOutcome, FunctionOutcome, IsFunction, bare, frame_stands, inside, is_laid_out};
 ghost use Rattle.elab_emit.specs.Emits.{IsSound};
+ghost use Rattle.elab_rows.specs.Scope.{slots_behind, standings};
 
 use crate::frames::{Frame, frame_of, local_standings};
 use c_typed::TypedFn;
@@ -130,6 +131,24 @@ fn go_inside(
     Ok(())
 }
 
+/// The scope becomes that of a definition of this type. The first slot behind those of its locals.
+fn settle(
+    alloc: Global,
+    scope: &mut Scope,
+    ty: &FnTy,
+    definition: &TypedFn,
+    has_frame: bool,
+) -> Result<u32, AllocError>
+    ensures scope { IfOk result (λ slots. (slots ≡ slots_behind (length (out-FnTy ty.now).params) 0 definition.now.locals)
+        × (scope.new ≡ inside scope.old (out-FnTy ty.now).result (standings (length (out-FnTy ty.now).params) 0 0 definition.now.locals) has_frame)) }
+    ensures file { bare scope.new ≡ bare scope.old }
+{
+    let own = local_standings(alloc, ty.params.len(), definition.locals.as_slice())?;
+    let slots = own.slots;
+    go_inside(scope, ty, own.places, has_frame)?;
+    Ok(slots)
+}
+
 /// The function of a definition. The scope becomes that of the function.
 pub(crate) fn function(
     alloc: Global,
@@ -142,12 +161,10 @@ pub(crate) fn function(
     let Some(ty) = function_of(&definition.declared.ty) else {
         return Err(Trouble::Memory);
     };
-    let ty = copy_function(alloc, ty)?;
     let frame = frame_of(alloc, scope, definition.locals.as_slice())?;
-    let standings = local_standings(alloc, ty.params.len(), definition.locals.as_slice())?;
-    let slots = standings.slots;
-    go_inside(scope, &ty, standings.places, has_frame(&frame))?;
-    let body = body_of(alloc, scope, slots, &ty, definition)?;
+    let slots = settle(alloc, scope, ty, definition, has_frame(&frame))?;
+    let body = body_of(alloc, scope, slots, ty, definition)?;
+    let ty = copy_function(alloc, ty)?;
     Ok(Elaborated { ty, body, frame })
 }
 
