@@ -21,7 +21,7 @@ use crate::functions::{Elaborated, finished, function, has_room};
 use crate::globals::{count_globals, global_list};
 use crate::limits::{MOST_FUNCTIONS, Passed, limit};
 use c_typed::{Typed, TypedDeclarator, TypedDirect, TypedFn, TypedItem};
-use c_types::{Name, Ty, copy_name, copy_table};
+use c_types::{Name, StructTable, Ty, copy_name, copy_table};
 use core_ir::{FunctionList, Program};
 use elab_emit::Trouble;
 use elab_pieces::LimitName;
@@ -201,26 +201,36 @@ fn all_functions(
     within_limits(functions)
 }
 
-/// The program of a typed source, or the first limit that it passes.
-fn whole_program(alloc: Global, typed: &Typed) -> Result<Program, ElabRefusal>
+/// The program of a typed source, or the first limit that it passes. The scope gives its table of structs.
+fn program_in(alloc: Global, scope: &mut Scope, typed: &Typed) -> Result<Program, ElabRefusal>
+    requires { scope.old ≡ spec.file_scope typed.now }
     ensures program { IfOk result (λ p. p ≡ program_of typed.now) }
     ensures limits { IfOk result (λ p. first_limit p ≡ None) }
     ensures refused { RefusesOnly (first_limit (program_of typed.now)) result }
 {
-    let mut scope = file_scope(alloc, typed)?;
     let entry = scope.functions.len();
     if entry > MOST_FUNCTIONS {
         return Err(limit(LimitName::Functions));
     }
-    let functions = all_functions(alloc, &mut scope, typed)?;
-    let globals = global_list(alloc, &scope, typed)?;
-    let structs = scope.structs;
+    let functions = all_functions(alloc, scope, typed)?;
+    let globals = global_list(alloc, scope, typed)?;
+    let structs = std::mem::replace(&mut scope.structs, StructTable::new(alloc));
     Ok(Program {
         functions,
         globals,
         structs,
         entry: entry as u32,
     })
+}
+
+/// The same from no scope on.
+fn whole_program(alloc: Global, typed: &Typed) -> Result<Program, ElabRefusal>
+    ensures program { IfOk result (λ p. p ≡ program_of typed.now) }
+    ensures limits { IfOk result (λ p. first_limit p ≡ None) }
+    ensures refused { RefusesOnly (first_limit (program_of typed.now)) result }
+{
+    let mut scope = file_scope(alloc, typed)?;
+    program_in(alloc, &mut scope, typed)
 }
 
 /// The program of a typed source.
