@@ -1,9 +1,12 @@
 //! What an event does to one thread.
 ghost use Rattle.std.specs.Prelude.{◌≡◌, ◌≤◌, ◌<◌, [], ◌∷◌, List, length, slice_get, slice_set, Option, OnOk, OnErr};
+ghost use Rattle.machine.specs.declared.code.Code.{Code};
 ghost use Rattle.meaning.specs.declared.action.Action.TheVariants as act;
 ghost use Rattle.meaning.specs.declared.action.Reply.TheVariants as reply;
 ghost use Rattle.meaning.specs.declared.value.Value.{Value};
-ghost use Rattle.meaning.specs.Records.{added_all};
+ghost use Rattle.meaning.specs.Action.{Fits};
+ghost use Rattle.meaning.specs.Records.{added, added_all};
+ghost use Rattle.meaning.specs.declared.record.Record.{Record};
 ghost use Rattle.machine.specs.Frames.{Thread as ModelThread};
 ghost use Rattle.machine.specs.Protected.{next, resume};
 ghost use Rattle.machine.specs.Run.{cuts, turns};
@@ -11,17 +14,20 @@ ghost use Rattle.machine.specs.Store.{remembered};
 ghost use Rattle.machine.specs.Trace.{traced, turn_records};
 ghost use Rattle.machine.specs.ValidCode.{ValidCode};
 ghost use Rattle.region_seq.specs.Bounded.{behind};
+ghost use Rattle.thread_engine.specs.Accesses.{IsAccess, StandsLow, gone_on};
 ghost use Rattle.thread_engine.specs.Sound.{IsSound, most_slots};
+ghost use Rattle.trace.specs.Records.{IsTold};
 ghost use Rattle.system.specs.State.{IsSeat, thread_of};
 ghost use Rattle.system.specs.inner.Seats.{Keeps, answer_of, is_running, setting_with, state_with, told_of};
 
 use super::memories::Memories;
 use super::record::record_turn;
 use machine::Code;
-use meaning::{Note, Record, Stop};
+use meaning::{Action, Note, Record, Reply, Stop, Value};
 use std::alloc::AllocError;
-use thread_engine::{Notes, Thread};
+use thread_engine::{Access, Notes, Thread};
 use trace::Trace;
+use values::{loaded_entry, truncated};
 
 /// The most records of a turn: its action, a transfer, and a function for each parameter.
 const MOST_RECORDS: usize = 11;
@@ -68,6 +74,106 @@ fn take_turn(
     Ok(())
 }
 
+/// Thread `t` goes on behind an answered action, which is recorded: its turn tells nothing else.
+fn finish(
+    t: u8,
+    thread: &mut Thread,
+    trace: &mut Trace,
+    action: Action,
+    reply: Reply,
+    defined: Option<(u32, Value)>,
+)
+    requires low { StandsLow thread.old.thread }
+    requires few { t < 16 }
+    requires told { IsTold action }
+    requires fits { Fits action reply }
+    requires spare { 1 ≤ trace.old.spare }
+    ensures thread { thread.new ≡ record thread.old { thread = gone_on defined thread.old.thread } }
+    ensures sound { (code : Code) → IsSound code thread.old.thread → IsSound code thread.new.thread }
+    ensures records { trace.new.records ≡ added trace.old.records (Record.Did t action reply) }
+    ensures inputs { trace.new.inputs ≡ trace.old.inputs }
+{
+    thread.go_on(defined);
+    trace.push(Record::Did { t, action, reply });
+}
+
+/// The same as `take_turn` of a turn that is an access.
+///
+/// # Errors
+///
+/// `AllocError`. The thread, the inputs and the trace are as before.
+fn take_access(
+    code: &Code,
+    t: u8,
+    thread: &mut Thread,
+    memories: &mut Memories,
+    notes: &mut Notes,
+    trace: &mut Trace,
+    access: Access,
+) -> Result<(), AllocError>
+    requires valid { ValidCode code.now }
+    requires sound { IsSound code.now thread.old.thread }
+    requires number { thread.old.number ≡ t }
+    requires few { t < 16 }
+    requires slots { memories.old.region.slots ≤ most_slots }
+    requires spare { 11 ≤ trace.old.spare }
+    requires access { IsAccess code.now t thread.old.thread access }
+    ensures thread { OnOk result (thread.new.thread ≡ (told_of code.now t thread.old.thread memories.old).thread) }
+    ensures number { thread.new.number ≡ t }
+    ensures sound { IsSound code.now thread.new.thread }
+    ensures region { OnOk result (memories.new.region ≡ behind memories.old.region (next code.now t thread.old.thread)) }
+    ensures plain { OnOk result (memories.new.plain ≡ remembered memories.old.plain (next code.now t thread.old.thread)) }
+    ensures records { OnOk result (trace.new.records ≡ added_all trace.old.records
+        (turn_records t (next code.now t thread.old.thread)
+        (answer_of memories.old (next code.now t thread.old.thread))
+        (told_of code.now t thread.old.thread memories.old).notes)) }
+    ensures err { OnErr result (trace.new.records ≡ trace.old.records) }
+    ensures kept { Keeps memories.old memories.new }
+    ensures inputs { trace.new.inputs ≡ trace.old.inputs }
+{
+    match access {
+        Access::Load { a, kind, d } => {
+            let word = memories.plain.load(a);
+            let defined = Some((d, Value::Bare(truncated(kind, word))));
+            finish(
+                t,
+                thread,
+                trace,
+                Action::Load(a),
+                Reply::Word(word),
+                defined,
+            );
+        }
+        Access::Store { a, v } => {
+            memories.plain.store(a, v)?;
+            finish(t, thread, trace, Action::Store(a, v), Reply::Nothing, None);
+        }
+        Access::Get { a, d } => {
+            let found = memories.region.get(a);
+            let defined = Some((d, loaded_entry(found)));
+            finish(
+                t,
+                thread,
+                trace,
+                Action::Get(a),
+                Reply::Found(found),
+                defined,
+            );
+        }
+        Access::Put { a, e } => {
+            memories.region.put(a, e)?;
+            finish(t, thread, trace, Action::Put(a, e), Reply::Nothing, None);
+        }
+        Access::Look { id } => {
+            if !memories.region.look(id) {
+                return take_turn(code, t, thread, memories, notes, trace);
+            }
+            finish(t, thread, trace, Action::Look(id), Reply::Flag(true), None);
+        }
+    }
+    Ok(())
+}
+
 /// A turn of thread `t`, unless it isn't live. Its notes are put in place of these.
 ///
 /// # Errors
@@ -105,8 +211,10 @@ pub fn turn_seat(
                 trace.push(Record::Steps { t, n: 1 });
                 return Ok(());
             }
-            take_turn(code, t, thread, memories, notes, trace)?;
-            Ok(())
+            match thread.access(code) {
+                Some(access) => take_access(code, t, thread, memories, notes, trace, access),
+                None => take_turn(code, t, thread, memories, notes, trace),
+            }
         }
         _ => Ok(()),
     }

@@ -5,4 +5,5 @@ pub mod Valid
 pub mod Effects
 pub mod Preserved
 pub mod QuietTurns
+pub mod Accesses
 pub mod Resumed

@@ -24,7 +24,7 @@ use Rattle.thread_engine.proofs.Effects.{both, resume_by, resume_halted, step_fi
 use Rattle.thread_engine.proofs.Valid.{opened_function, opened_length, opened_object, sizes_are_small}
 
 -- what is written puts no object there that isn't among the slots
-abbrev WriteFits : Write Value → Type 0
+abbrev pub WriteFits : Write Value → Type 0
 WriteFits (ToObject id) = id ≤ most_slots
 WriteFits _ = Unit {0}
 
@@ -53,7 +53,7 @@ written_is_sound code w f fits sound = record {
 }
 
 -- the top frame moves to a place, and something is written in it
-top_is_sound :
+pub top_is_sound :
     (code : Code) (w : Write Value) (top : Frame Value) (below : List (Frame Value)) (to : ℕ)
     → WriteFits w
     → AreSound code (top ∷ below)

@@ -1,4 +1,5 @@
 pub mod State
 pub mod Sound
 pub mod Quiet
+pub mod Accesses
 pub mod inner

@@ -1,3 +1,4 @@
+pub mod Accesses
 pub mod Frames
 pub mod Quiet
 pub mod Turns

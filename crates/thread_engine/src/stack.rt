@@ -1,20 +1,23 @@
 //! The frames of a thread. Nothing else knows how they lie.
 
-ghost use Rattle.std.specs.Prelude.{◌≡◌, ◌<◌, ◌+◌, ◌^◌, ◌∷◌, ℕ, [], length, IfOk};
+ghost use Rattle.std.specs.Prelude.{◌≡◌, ◌<◌, ◌+◌, ◌^◌, ◌∷◌, ℕ, [], length, IfOk, IfSome};
 ghost use Rattle.machine.specs.Frames.{Running};
 ghost use Rattle.machine.specs.Threads as spec;
 ghost use Rattle.machine.specs.Protected.{protected};
 ghost use Rattle.machine.specs.ValidCode.{ValidCode};
+ghost use Rattle.thread_engine.specs.Accesses.{IsAccess, moved_on, write_by};
 ghost use Rattle.thread_engine.specs.Quiet.{TakesQuietTurn};
 ghost use Rattle.thread_engine.specs.Sound.{AreSound, length_of};
 ghost use Rattle.thread_engine.specs.inner.Frames.{HasRoom, IsBottomBy, LeavesBy, below_of, frame_of, frames_of, held, top_of};
 ghost use Rattle.thread_engine.specs.inner.Turns.{write_of};
 
+use crate::access::{Access, access_at};
 use crate::effect::Write;
 use crate::frame::Frame;
 use crate::instruction::{place_at, size_of};
 use crate::quiet::take_quietly;
 use machine::Code;
+use meaning::Value;
 use std::alloc::{AllocError, Global};
 use std::mem::replace;
 
@@ -72,6 +75,16 @@ impl Stack {
     }
 }
 
+/// What the answer of an access writes.
+fn register_write(defined: Option<(u32, Value)>) -> Write
+    ensures { write_of result ≡ write_by defined }
+{
+    match defined {
+        None => Write::Nothing,
+        Some((d, value)) => Write::ToRegister { d, value },
+    }
+}
+
 impl Stack {
     /// The first frame of a thread that begins.
     pub(crate) fn begin(&mut self, first: Frame)
@@ -111,6 +124,27 @@ impl Stack {
             None => false,
             Some(place) => take_quietly(&mut self.top, place),
         }
+    }
+
+    /// The access that the turn of the top frame's instruction is, if it is one.
+    pub(crate) fn access(&self, code: &Code) -> Option<Access>
+        requires valid { ValidCode code.now }
+        ensures { (t : ℕ) → IfSome result (IsAccess code.now t (Running (top_of self.now) (below_of self.now))) }
+    {
+        match place_at(code, self.top.function, self.top.place) {
+            None => None,
+            Some(place) => access_at(&self.top, place),
+        }
+    }
+
+    /// To the top frame's next place, with this value in this register, if one is given.
+    pub(crate) fn go_on(&mut self, defined: Option<(u32, Value)>)
+        requires low { self.old.top.place < 65536 }
+        ensures top { top_of self.new ≡ moved_on defined (top_of self.old) }
+        ensures below { self.new.below ≡ self.old.below }
+        ensures counts { self.old.used ≡ held (frames_of self.old) → self.new.used ≡ held (frames_of self.new) }
+    {
+        self.go(self.top.place + 1, register_write(defined));
     }
 
     /// Into a new frame, from behind which the top one goes on.

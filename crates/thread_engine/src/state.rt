@@ -1,6 +1,6 @@
 //! Where a thread stands, and where an answer leads it.
 
-ghost use Rattle.std.specs.Prelude.{◌≡◌, ℕ, ◌<◌, ◌≤◌, ◌^◌, ◌++◌, [], length, map, take, Some, None, true, IfOk, OnOk, OnErr};
+ghost use Rattle.std.specs.Prelude.{◌≡◌, ℕ, ◌<◌, ◌≤◌, ◌^◌, ◌++◌, [], length, map, take, Some, None, true, IfOk, IfSome, OnOk, OnErr};
 ghost use Rattle.meaning.specs.Action.{Fits};
 ghost use Rattle.meaning.specs.declared.value.Value.{Value};
 ghost use Rattle.machine.specs.Frames as model;
@@ -11,12 +11,14 @@ ghost use Rattle.machine.specs.Shapes as shape;
 ghost use Rattle.machine.specs.Threads as thread;
 ghost use Rattle.machine.specs.ValidCode.{ValidCode};
 ghost use Rattle.machine.specs.Values as value;
+ghost use Rattle.thread_engine.specs.Accesses.{IsAccess, StandsLow, gone_on};
 ghost use Rattle.thread_engine.specs.Quiet.{TakesQuietTurn};
 ghost use Rattle.thread_engine.specs.Sound.{IsSound, SlotsAreThere, length_of};
 ghost use Rattle.thread_engine.specs.inner.Frames.{below_of, frame_of, frames_of, top_of};
 ghost use Rattle.thread_engine.specs.inner.Turns.{EffectFits, StepFits, callee_of, effect_of, halt_of, write_of};
 ghost use Rattle.thread_engine.specs.inner.Views.{Gives, IsKept, thread_of};
 
+use crate::access::Access;
 use crate::action::{action_in, argument_address, halt_of, start_address};
 use crate::callee::Callee;
 use crate::effect::{Effect, Write, effect_at};
@@ -419,6 +421,32 @@ impl State {
         match self.phase {
             Phase::Running => self.stack.take_quiet_turn(code),
             Phase::Waiting | Phase::Starting(_) | Phase::Ended | Phase::Stopped(_) => false,
+        }
+    }
+
+    /// The access that the thread's next turn is, if it is one.
+    pub(crate) fn access(&self, code: &Code) -> Option<Access>
+        requires valid { ValidCode code.now }
+        requires kept { IsKept self.now }
+        requires sound { IsSound code.now (thread_of self.now) }
+        ensures { (t : ℕ) → IfSome result (IsAccess code.now t (thread_of self.now)) }
+    {
+        match self.phase {
+            Phase::Running => self.stack.access(code),
+            Phase::Waiting | Phase::Starting(_) | Phase::Ended | Phase::Stopped(_) => None,
+        }
+    }
+
+    /// To the thread's next place, with this value in this register, if one is given.
+    pub(crate) fn go_on(&mut self, defined: Option<(u32, Value)>)
+        requires kept { IsKept self.old }
+        requires low { StandsLow (thread_of self.old) }
+        ensures kept { IsKept self.new }
+        ensures gone { thread_of self.new ≡ gone_on defined (thread_of self.old) }
+    {
+        match self.phase {
+            Phase::Running => self.stack.go_on(defined),
+            Phase::Waiting | Phase::Starting(_) | Phase::Ended | Phase::Stopped(_) => {}
         }
     }
 

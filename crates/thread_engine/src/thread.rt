@@ -1,18 +1,21 @@
 //! A thread as callers see it.
 
-ghost use Rattle.std.specs.Prelude.{◌≡◌, ◌↔◌, IfOk, OnOk, OnErr, IsTrue};
+ghost use Rattle.std.specs.Prelude.{◌≡◌, ◌↔◌, IfOk, IfSome, OnOk, OnErr, IsTrue};
 ghost use Rattle.meaning.specs.Action.{Fits};
 ghost use Rattle.machine.specs.Frames as model;
 ghost use Rattle.machine.specs.Logs.{first_thread};
 ghost use Rattle.machine.specs.Protected as spec;
 ghost use Rattle.machine.specs.ValidCode.{ValidCode};
+ghost use Rattle.machine.specs.declared.code.Code.{Code};
+ghost use Rattle.thread_engine.specs.Accesses.{IsAccess, StandsLow, gone_on};
 ghost use Rattle.thread_engine.specs.Quiet.{TakesQuietTurn};
 ghost use Rattle.thread_engine.specs.Sound.{IsSound, SlotsAreThere};
 
+use crate::access::Access;
 use crate::notes::Notes;
 use crate::state::State;
 use machine::Code;
-use meaning::{Action, Reply};
+use meaning::{Action, Reply, Value};
 use std::alloc::{AllocError, Global};
 use std::marker::Model;
 
@@ -81,6 +84,25 @@ impl Thread {
         ensures sound { IsSound code.now self.new.thread }
     {
         self.state.take_quiet_turn(code)
+    }
+
+    /// The access that its next turn is, if it is one. Whoever answers it has the thread go on.
+    pub fn access(&self, code: &Code) -> Option<Access>
+        requires valid { ValidCode code.now }
+        requires sound { IsSound code.now self.now.thread }
+        ensures { IfSome result (IsAccess code.now self.now.number self.now.thread) }
+    {
+        self.state.access(code)
+    }
+
+    /// To its next place, with this value in this register, if one is given: what the answer of an access does.
+    #[tactic(auto, using(crate::proofs::Accesses::going_on_keeps_sound))]
+    pub fn go_on(&mut self, defined: Option<(u32, Value)>)
+        requires low { StandsLow self.old.thread }
+        ensures gone { self.new ≡ record self.old { thread = gone_on defined self.old.thread } }
+        ensures sound { (code : Code) → IsSound code self.old.thread → IsSound code self.new.thread }
+    {
+        self.state.go_on(defined);
     }
 
     /// What it asks for in its next turn.

@@ -1,6 +1,7 @@
 //! Traces.
 ghost use Rattle.std.specs.Prelude.{◌≡◌, ◌+◌, ◌-◌, ◌≤◌, ◌<◌, [], ◌∷◌, ◌++◌, length, slice_get, slice_set, Option, MatchOption, IsOk, IfOk, OnOk, OnErr};
 ghost use Rattle.meaning.specs.Records.{added, joined, is_violated, names_check};
+ghost use Rattle.meaning.specs.declared.record.Record.{Record};
 ghost use Rattle.trace.specs.Records.{IsRecord};
 
 use meaning::{Inputs, Note, Record, Stop};
@@ -121,17 +122,32 @@ fn joined_last(records: &[Record], entry: Record) -> Option<Record>
         × (added records.now entry ≡ slice_set records.now (length records.now - 1) both)) }
 {
     let last = records.last()?;
-    joined(*last, entry)
+    joined(last, entry)
 }
 
-/// Two records as one, where they are steps of the same thread.
-fn joined(last: Record, entry: Record) -> Option<Record>
-    ensures { MatchOption result (joined last entry ≡ last ∷ entry ∷ []) (λ both. joined last entry ≡ both ∷ []) }
+/// Two records as one, where they are steps of the same thread. The new one tells first, since most that aren't steps
+/// are known by it.
+fn joined(last: &Record, entry: Record) -> Option<Record>
+    ensures { MatchOption result
+        (joined last.now entry ≡ last.now ∷ entry ∷ [])
+        (λ both. joined last.now entry ≡ both ∷ []) }
 {
-    match (last, entry) {
-        (Record::Steps { t, n }, Record::Steps { t: u, n: m }) if t == u => Some(Record::Steps {
+    match entry {
+        Record::Steps { t, n } => joined_steps(last, t, n),
+        _ => None,
+    }
+}
+
+/// A record and so many steps of a thread as one record, where it is steps of that thread.
+fn joined_steps(last: &Record, t: u8, n: u64) -> Option<Record>
+    ensures { MatchOption result
+        (joined last.now (Record.Steps t n) ≡ last.now ∷ Record.Steps t n ∷ [])
+        (λ both. joined last.now (Record.Steps t n) ≡ both ∷ []) }
+{
+    match last {
+        Record::Steps { t: u, n: m } if *u == t => Some(Record::Steps {
             t,
-            n: n.saturating_add(m),
+            n: m.saturating_add(n),
         }),
         _ => None,
     }
