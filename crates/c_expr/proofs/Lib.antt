@@ -1,8 +1,6 @@
 mod FormsBegin
-mod NamesSet
-mod Pairs
+mod PairsLemmas
 mod ReadersLemmas
-mod Runs
 mod SeparatedLists
 mod TypeNames
 mod soundness

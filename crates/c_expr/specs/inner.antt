@@ -1,6 +1,2 @@
-pub mod Parser
-pub mod ParserLemmas
-pub mod Readers
-pub mod Reads
-pub mod Nests
 pub mod FirstTokensLemmas
+pub mod Pairs

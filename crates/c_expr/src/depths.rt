@@ -1,13 +1,11 @@
 //! The functions that read at each depth, by the rules of that depth.
 
 ghost use Rattle.std.specs.Prelude.{◌≡◌, ◌≤◌, ◌<◌, ◌^◌, true, IfOk};
-ghost use Rattle.c_expr.specs.inner.Readers.{readers};
-ghost use Rattle.c_expr.specs.inner.Reads.{Reads};
+ghost use Rattle.c_declarators.specs.inner.Readers.{readers};
+ghost use Rattle.c_declarators.specs.inner.Reads.{Reads};
 
-use crate::cursor::Cursor;
-use crate::error::Failure;
-use crate::grammar::Grammar;
-use crate::names::Names;
+use crate::expressions::Expressions;
+use c_declarators::{Cursor, Failure, Grammar, Names};
 use c_tree::{Declarator, Expr, Params, Spec};
 use sqlite_items::Boxed;
 use std::alloc::Global;
@@ -28,14 +26,14 @@ pub(crate) fn boxed_expr(
     if depth == 0 {
         return Err(Failure::Mismatch);
     }
-    Grammar {
+    let grammar = Grammar {
         alloc,
         names,
         depth,
         expr: boxed_expr,
         params,
-    }
-    .level(tokens, least)
+    };
+    Expressions { grammar }.level(tokens, least)
 }
 
 /// An expression of this level or a tighter one.

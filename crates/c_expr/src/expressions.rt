@@ -1,26 +1,29 @@
 //! Expressions, by precedence climbing.
 
 ghost use Rattle.std.specs.Prelude.{◌≡◌, ◌≤◌, ◌<◌, ◌+◌, ◌-◌, ◌^◌, IfOk, IfSome};
-ghost use Rattle.c_expr.specs.inner.Parser.{separated};
-ghost use Rattle.c_expr.specs.inner.Nests.{Nests, below, in_pair};
-ghost use Rattle.c_expr.specs.inner.Readers as reader;
-ghost use Rattle.c_expr.specs.inner.Reads.{Reads};
+ghost use Rattle.c_declarators.specs.inner.Parser.{separated};
+ghost use Rattle.c_declarators.specs.inner.Nests.{Nests, below};
+ghost use Rattle.c_declarators.specs.inner.Readers as reader;
+ghost use Rattle.c_declarators.specs.inner.Reads.{Reads};
+ghost use Rattle.c_expr.specs.inner.Pairs.{in_pair};
 
-use crate::cursor::Cursor;
-use crate::error::Failure;
-use crate::grammar::Grammar;
-use crate::level::{
-    ASSIGN_LEVEL, CAST_LEVEL, CONDITIONAL_LEVEL, GREATEST_PAIRS, UNARY_LEVEL, binary_level,
+use c_declarators::{
+    ASSIGN_LEVEL, CAST_LEVEL, CONDITIONAL_LEVEL, Continuation, Cursor, Failure, GREATEST_PAIRS,
+    Grammar, Names, Operand, Part, UNARY_LEVEL, binary_level, bracketed, extended, free_name,
+    name_of, opened, opens_type,
 };
-use crate::lookahead::{free_name, name_of, opened, opens_type};
-use crate::names::Names;
-use crate::operand::{Continuation, Operand, Part, bracketed, extended};
 use c_tokens::{Keyword, Kind, Mark};
 use c_tree::{Expr, Params, UnaryOperator};
 use sqlite_items::{Boxed, Items};
 use std::alloc::Global;
 
-impl<'n, F, G> Grammar<'n, F, G>
+/// The rules of expressions of one depth, beside those of declarators.
+#[derive(Clone, Copy)]
+pub(crate) struct Expressions<'n, F, G> {
+    pub grammar: Grammar<'n, F, G>,
+}
+
+impl<'n, F, G> Expressions<'n, F, G>
 where
     F: Fn(Global, &Names, &mut Cursor<'_>, usize, usize) -> Result<(Boxed<Expr>, usize), Failure>
         + Copy,
@@ -28,14 +31,14 @@ where
 {
     /// Expressions with commas between, at least one.
     fn expressions(&self, tokens: &mut Cursor<'_>) -> Result<(Items<Expr>, usize), Failure>
-        requires { Nests self.now.depth (F.pre self.now.expr) (F.post self.now.expr) (G.pre self.now.params) (G.post self.now.params) }
-        ensures reads { Reads (separated ((below self.now.names.now self.now.depth).expr 0) tokens.old) result tokens.new }
-        ensures height { IfOk result (λ es. es.1 ≤ self.now.depth - 1) }
+        requires { Nests self.now.grammar.depth (F.pre self.now.grammar.expr) (F.post self.now.grammar.expr) (G.pre self.now.grammar.params) (G.post self.now.grammar.params) }
+        ensures reads { Reads (separated ((below self.now.grammar.names.now self.now.grammar.depth).expr 0) tokens.old) result tokens.new }
+        ensures height { IfOk result (λ es. es.1 ≤ self.now.grammar.depth - 1) }
     {
-        let mut found = Items::new(self.alloc);
+        let mut found = Items::new(self.grammar.alloc);
         let mut height = 0;
         for _turn in 0..tokens.left() {
-            let (expr, its_height) = self.inner_expr(tokens, ASSIGN_LEVEL)?;
+            let (expr, its_height) = self.grammar.inner_expr(tokens, ASSIGN_LEVEL)?;
             found.push(expr.into_inner())?;
             height = height.max(its_height);
             if !tokens.eat(Mark::Comma) {
@@ -46,14 +49,14 @@ where
     }
 
     /// The arguments of a call, behind its `(`.
-    #[tactic(auto, unfolding(crate::specs::inner::Readers::arguments))]
+    #[tactic(auto, unfolding(c_declarators::specs::inner::Readers::arguments))]
     fn arguments(&self, tokens: &mut Cursor<'_>) -> Result<(Items<Expr>, usize), Failure>
-        requires { Nests self.now.depth (F.pre self.now.expr) (F.post self.now.expr) (G.pre self.now.params) (G.post self.now.params) }
-        ensures reads { Reads (reader.arguments self.now.names.now (below self.now.names.now self.now.depth) tokens.old) result tokens.new }
-        ensures height { IfOk result (λ es. es.1 ≤ self.now.depth - 1) }
+        requires { Nests self.now.grammar.depth (F.pre self.now.grammar.expr) (F.post self.now.grammar.expr) (G.pre self.now.grammar.params) (G.post self.now.grammar.params) }
+        ensures reads { Reads (reader.arguments self.now.grammar.names.now (below self.now.grammar.names.now self.now.grammar.depth) tokens.old) result tokens.new }
+        ensures height { IfOk result (λ es. es.1 ≤ self.now.grammar.depth - 1) }
     {
         if tokens.eat(Mark::RightParenthesis) {
-            return Ok((Items::new(self.alloc), 0));
+            return Ok((Items::new(self.grammar.alloc), 0));
         }
         let given = self.expressions(tokens)?;
         tokens.expect(Mark::RightParenthesis)?;
@@ -61,27 +64,27 @@ where
     }
 
     /// What stands behind a `[`.
-    #[tactic(auto, unfolding(crate::specs::inner::Readers::index))]
+    #[tactic(auto, unfolding(c_declarators::specs::inner::Readers::index))]
     fn index(&self, tokens: &mut Cursor<'_>) -> Result<(Part, usize), Failure>
-        requires { Nests self.now.depth (F.pre self.now.expr) (F.post self.now.expr) (G.pre self.now.params) (G.post self.now.params) }
-        ensures reads { Reads (reader.index self.now.names.now (below self.now.names.now self.now.depth) tokens.old) result tokens.new }
-        ensures height { IfOk result (λ p. p.1 ≤ self.now.depth - 1) }
+        requires { Nests self.now.grammar.depth (F.pre self.now.grammar.expr) (F.post self.now.grammar.expr) (G.pre self.now.grammar.params) (G.post self.now.grammar.params) }
+        ensures reads { Reads (reader.index self.now.grammar.names.now (below self.now.grammar.names.now self.now.grammar.depth) tokens.old) result tokens.new }
+        ensures height { IfOk result (λ p. p.1 ≤ self.now.grammar.depth - 1) }
     {
-        let (at, height) = self.inner_expr(tokens, ASSIGN_LEVEL)?;
+        let (at, height) = self.grammar.inner_expr(tokens, ASSIGN_LEVEL)?;
         tokens.expect(Mark::RightBracket)?;
         Ok((Part::Index(at), height))
     }
 
     /// What stands behind a `?`.
-    #[tactic(auto, unfolding(crate::specs::inner::Readers::arms))]
+    #[tactic(auto, unfolding(c_declarators::specs::inner::Readers::arms))]
     fn arms(&self, tokens: &mut Cursor<'_>) -> Result<(Part, usize), Failure>
-        requires { Nests self.now.depth (F.pre self.now.expr) (F.post self.now.expr) (G.pre self.now.params) (G.post self.now.params) }
-        ensures reads { Reads (reader.arms self.now.names.now (below self.now.names.now self.now.depth) tokens.old) result tokens.new }
-        ensures height { IfOk result (λ p. p.1 ≤ self.now.depth - 1) }
+        requires { Nests self.now.grammar.depth (F.pre self.now.grammar.expr) (F.post self.now.grammar.expr) (G.pre self.now.grammar.params) (G.post self.now.grammar.params) }
+        ensures reads { Reads (reader.arms self.now.grammar.names.now (below self.now.grammar.names.now self.now.grammar.depth) tokens.old) result tokens.new }
+        ensures height { IfOk result (λ p. p.1 ≤ self.now.grammar.depth - 1) }
     {
-        let (first, first_height) = self.inner_expr(tokens, ASSIGN_LEVEL)?;
+        let (first, first_height) = self.grammar.inner_expr(tokens, ASSIGN_LEVEL)?;
         tokens.expect(Mark::Colon)?;
-        let (second, second_height) = self.inner_expr(tokens, CONDITIONAL_LEVEL)?;
+        let (second, second_height) = self.grammar.inner_expr(tokens, CONDITIONAL_LEVEL)?;
         Ok((
             Part::Conditional(first, second),
             first_height.max(second_height),
@@ -89,11 +92,11 @@ where
     }
 
     /// What an operand goes on with, behind the mark.
-    #[tactic(auto, unfolding(crate::specs::inner::Readers::part))]
+    #[tactic(auto, unfolding(c_declarators::specs::inner::Readers::part))]
     fn part(&self, tokens: &mut Cursor<'_>, next: Continuation) -> Result<(Part, usize), Failure>
-        requires { Nests self.now.depth (F.pre self.now.expr) (F.post self.now.expr) (G.pre self.now.params) (G.post self.now.params) }
-        ensures reads { Reads (reader.part self.now.names.now (below self.now.names.now self.now.depth) next tokens.old) result tokens.new }
-        ensures height { IfOk result (λ p. p.1 ≤ self.now.depth - 1) }
+        requires { Nests self.now.grammar.depth (F.pre self.now.grammar.expr) (F.post self.now.grammar.expr) (G.pre self.now.grammar.params) (G.post self.now.grammar.params) }
+        ensures reads { Reads (reader.part self.now.grammar.names.now (below self.now.grammar.names.now self.now.grammar.depth) next tokens.old) result tokens.new }
+        ensures height { IfOk result (λ p. p.1 ≤ self.now.grammar.depth - 1) }
     {
         match next {
             Continuation::Index => self.index(tokens),
@@ -102,22 +105,22 @@ where
                 Ok((Part::Call(given), height))
             }
             Continuation::Member => {
-                let name = free_name(self.alloc, self.names, tokens)?;
+                let name = free_name(self.grammar.alloc, self.grammar.names, tokens)?;
                 Ok((Part::Member(name), 0))
             }
             Continuation::Arrow => {
-                let name = free_name(self.alloc, self.names, tokens)?;
+                let name = free_name(self.grammar.alloc, self.grammar.names, tokens)?;
                 Ok((Part::Arrow(name), 0))
             }
             Continuation::Increment => Ok((Part::Increment, 0)),
             Continuation::Decrement => Ok((Part::Decrement, 0)),
             Continuation::Binary(op) => {
-                let (right, height) = self.inner_expr(tokens, 1 + binary_level(op))?;
+                let (right, height) = self.grammar.inner_expr(tokens, 1 + binary_level(op))?;
                 Ok((Part::Binary(op, right), height))
             }
             Continuation::Conditional => self.arms(tokens),
             Continuation::Assign(op) => {
-                let (right, height) = self.inner_expr(tokens, ASSIGN_LEVEL)?;
+                let (right, height) = self.grammar.inner_expr(tokens, ASSIGN_LEVEL)?;
                 Ok((Part::Assign(op, right), height))
             }
         }
@@ -130,20 +133,20 @@ where
         least: usize,
         operand: Operand,
     ) -> Result<Operand, Failure>
-        requires nests { Nests self.now.depth (F.pre self.now.expr) (F.post self.now.expr) (G.pre self.now.params) (G.post self.now.params) }
-        requires low { operand.height ≤ 1 + (self.now.depth - 1) }
-        ensures reads { Reads (reader.grow self.now.names.now (below self.now.names.now self.now.depth) (self.now.depth - 1) least operand tokens.old) result tokens.new }
-        ensures height { IfOk result (λ o. o.height ≤ 1 + (self.now.depth - 1)) }
+        requires nests { Nests self.now.grammar.depth (F.pre self.now.grammar.expr) (F.post self.now.grammar.expr) (G.pre self.now.grammar.params) (G.post self.now.grammar.params) }
+        requires low { operand.height ≤ 1 + (self.now.grammar.depth - 1) }
+        ensures reads { Reads (reader.grow self.now.grammar.names.now (below self.now.grammar.names.now self.now.grammar.depth) (self.now.grammar.depth - 1) least operand tokens.old) result tokens.new }
+        ensures height { IfOk result (λ o. o.height ≤ 1 + (self.now.grammar.depth - 1)) }
     {
         let mut whole = operand;
         for _turn in 0..tokens.left() {
-            let Some(next) = whole.going_on(tokens, self.limit(), least) else {
+            let Some(next) = whole.going_on(tokens, self.grammar.limit(), least) else {
                 return Ok(whole);
             };
             let place = tokens.place();
             tokens.skip();
             match self.part(tokens, next) {
-                Ok(part) => whole = extended(self.alloc, whole, part)?,
+                Ok(part) => whole = extended(self.grammar.alloc, whole, part)?,
                 Err(Failure::Memory) => return Err(Failure::Memory),
                 Err(Failure::Mismatch) => {
                     tokens.go_back(place);
@@ -155,12 +158,12 @@ where
     }
 
     /// The operand in the parentheses that are open round it.
-    #[tactic(auto, unfolding(crate::specs::inner::Nests::in_pair))]
+    #[tactic(auto, unfolding(crate::specs::inner::Pairs::in_pair))]
     fn in_pair(&self, tokens: &mut Cursor<'_>, operand: Operand) -> Result<Operand, Failure>
-        requires nests { Nests self.now.depth (F.pre self.now.expr) (F.post self.now.expr) (G.pre self.now.params) (G.post self.now.params) }
-        requires low { operand.height ≤ 1 + (self.now.depth - 1) }
-        ensures reads { Reads (in_pair self.now.names.now (below self.now.names.now self.now.depth) (self.now.depth - 1) operand tokens.old) result tokens.new }
-        ensures height { IfOk result (λ o. o.height ≤ 1 + (self.now.depth - 1)) }
+        requires nests { Nests self.now.grammar.depth (F.pre self.now.grammar.expr) (F.post self.now.grammar.expr) (G.pre self.now.grammar.params) (G.post self.now.grammar.params) }
+        requires low { operand.height ≤ 1 + (self.now.grammar.depth - 1) }
+        ensures reads { Reads (in_pair self.now.grammar.names.now (below self.now.grammar.names.now self.now.grammar.depth) (self.now.grammar.depth - 1) operand tokens.old) result tokens.new }
+        ensures height { IfOk result (λ o. o.height ≤ 1 + (self.now.grammar.depth - 1)) }
     {
         let whole = self.grow(tokens, ASSIGN_LEVEL, operand)?;
         tokens.expect(Mark::RightParenthesis)?;
@@ -179,10 +182,10 @@ where
         pairs: usize,
         operand: Operand,
     ) -> Result<(Boxed<Expr>, usize), Failure>
-        requires nests { Nests self.now.depth (F.pre self.now.expr) (F.post self.now.expr) (G.pre self.now.params) (G.post self.now.params) }
-        requires low { operand.height ≤ 1 + (self.now.depth - 1) }
-        ensures reads { Reads (reader.close self.now.names.now (below self.now.names.now self.now.depth) (self.now.depth - 1) least pairs operand tokens.old) result tokens.new }
-        ensures height { IfOk result (λ e. e.1 ≤ 1 + (self.now.depth - 1)) }
+        requires nests { Nests self.now.grammar.depth (F.pre self.now.grammar.expr) (F.post self.now.grammar.expr) (G.pre self.now.grammar.params) (G.post self.now.grammar.params) }
+        requires low { operand.height ≤ 1 + (self.now.grammar.depth - 1) }
+        ensures reads { Reads (reader.close self.now.grammar.names.now (below self.now.grammar.names.now self.now.grammar.depth) (self.now.grammar.depth - 1) least pairs operand tokens.old) result tokens.new }
+        ensures height { IfOk result (λ e. e.1 ≤ 1 + (self.now.grammar.depth - 1)) }
     {
         let mut whole = operand;
         for _pair in 0..pairs {
@@ -197,21 +200,21 @@ where
     }
 
     /// What stands behind `sizeof`.
-    #[tactic(auto, unfolding(crate::specs::inner::Readers::sizeof))]
+    #[tactic(auto, unfolding(c_declarators::specs::inner::Readers::sizeof))]
     fn sizeof(&self, tokens: &mut Cursor<'_>) -> Result<Operand, Failure>
-        requires { Nests self.now.depth (F.pre self.now.expr) (F.post self.now.expr) (G.pre self.now.params) (G.post self.now.params) }
-        ensures reads { Reads (reader.sizeof self.now.names.now (below self.now.names.now self.now.depth) tokens.old) result tokens.new }
-        ensures height { IfOk result (λ o. o.height ≤ 1 + (self.now.depth - 1)) }
+        requires { Nests self.now.grammar.depth (F.pre self.now.grammar.expr) (F.post self.now.grammar.expr) (G.pre self.now.grammar.params) (G.post self.now.grammar.params) }
+        ensures reads { Reads (reader.sizeof self.now.grammar.names.now (below self.now.grammar.names.now self.now.grammar.depth) tokens.old) result tokens.new }
+        ensures height { IfOk result (λ o. o.height ≤ 1 + (self.now.grammar.depth - 1)) }
     {
-        if opens_type(self.names, tokens) {
+        if opens_type(self.grammar.names, tokens) {
             tokens.expect(Mark::LeftParenthesis)?;
-            let (word, height) = self.inner_type_word(tokens)?;
+            let (word, height) = self.grammar.inner_type_word(tokens)?;
             tokens.expect(Mark::RightParenthesis)?;
-            return Operand::new(self.alloc, UNARY_LEVEL, Expr::SizeofType(word), 1 + height);
+            return Operand::new(self.grammar.alloc, UNARY_LEVEL, Expr::SizeofType(word), 1 + height);
         }
-        let (inside, height) = self.inner_expr(tokens, UNARY_LEVEL)?;
+        let (inside, height) = self.grammar.inner_expr(tokens, UNARY_LEVEL)?;
         Operand::new(
-            self.alloc,
+            self.grammar.alloc,
             UNARY_LEVEL,
             Expr::SizeofExpr(inside),
             1 + height,
@@ -219,17 +222,17 @@ where
     }
 
     /// What stands behind the `(` of a cast.
-    #[tactic(auto, unfolding(crate::specs::inner::Readers::cast))]
+    #[tactic(auto, unfolding(c_declarators::specs::inner::Readers::cast))]
     fn cast(&self, tokens: &mut Cursor<'_>) -> Result<Operand, Failure>
-        requires { Nests self.now.depth (F.pre self.now.expr) (F.post self.now.expr) (G.pre self.now.params) (G.post self.now.params) }
-        ensures reads { Reads (reader.cast self.now.names.now (below self.now.names.now self.now.depth) tokens.old) result tokens.new }
-        ensures height { IfOk result (λ o. o.height ≤ 1 + (self.now.depth - 1)) }
+        requires { Nests self.now.grammar.depth (F.pre self.now.grammar.expr) (F.post self.now.grammar.expr) (G.pre self.now.grammar.params) (G.post self.now.grammar.params) }
+        ensures reads { Reads (reader.cast self.now.grammar.names.now (below self.now.grammar.names.now self.now.grammar.depth) tokens.old) result tokens.new }
+        ensures height { IfOk result (λ o. o.height ≤ 1 + (self.now.grammar.depth - 1)) }
     {
-        let (word, word_height) = self.inner_type_word(tokens)?;
+        let (word, word_height) = self.grammar.inner_type_word(tokens)?;
         tokens.expect(Mark::RightParenthesis)?;
-        let (inside, height) = self.inner_expr(tokens, CAST_LEVEL)?;
+        let (inside, height) = self.grammar.inner_expr(tokens, CAST_LEVEL)?;
         Operand::new(
-            self.alloc,
+            self.grammar.alloc,
             CAST_LEVEL,
             Expr::Cast(word, inside),
             1 + word_height.max(height),
@@ -237,38 +240,38 @@ where
     }
 
     /// What stands behind a unary operator.
-    #[tactic(auto, unfolding(crate::specs::inner::Readers::unary_behind))]
+    #[tactic(auto, unfolding(c_declarators::specs::inner::Readers::unary_behind))]
     fn unary_behind(&self, tokens: &mut Cursor<'_>, op: UnaryOperator) -> Result<Operand, Failure>
-        requires { Nests self.now.depth (F.pre self.now.expr) (F.post self.now.expr) (G.pre self.now.params) (G.post self.now.params) }
-        ensures reads { Reads (reader.unary_behind self.now.names.now (below self.now.names.now self.now.depth) op tokens.old) result tokens.new }
-        ensures height { IfOk result (λ o. o.height ≤ 1 + (self.now.depth - 1)) }
+        requires { Nests self.now.grammar.depth (F.pre self.now.grammar.expr) (F.post self.now.grammar.expr) (G.pre self.now.grammar.params) (G.post self.now.grammar.params) }
+        ensures reads { Reads (reader.unary_behind self.now.grammar.names.now (below self.now.grammar.names.now self.now.grammar.depth) op tokens.old) result tokens.new }
+        ensures height { IfOk result (λ o. o.height ≤ 1 + (self.now.grammar.depth - 1)) }
     {
-        let (inside, height) = self.inner_expr(tokens, CAST_LEVEL)?;
-        Operand::new(self.alloc, UNARY_LEVEL, Expr::Unary(op, inside), 1 + height)
+        let (inside, height) = self.grammar.inner_expr(tokens, CAST_LEVEL)?;
+        Operand::new(self.grammar.alloc, UNARY_LEVEL, Expr::Unary(op, inside), 1 + height)
     }
 
     /// What stands behind a mark that begins an expression.
-    #[tactic(auto, unfolding(crate::specs::inner::Readers::prefixed))]
+    #[tactic(auto, unfolding(c_declarators::specs::inner::Readers::prefixed))]
     fn prefixed(&self, tokens: &mut Cursor<'_>, mark: Mark) -> Result<Operand, Failure>
-        requires { Nests self.now.depth (F.pre self.now.expr) (F.post self.now.expr) (G.pre self.now.params) (G.post self.now.params) }
-        ensures reads { Reads (reader.prefixed self.now.names.now (below self.now.names.now self.now.depth) mark tokens.old) result tokens.new }
-        ensures height { IfOk result (λ o. o.height ≤ 1 + (self.now.depth - 1)) }
+        requires { Nests self.now.grammar.depth (F.pre self.now.grammar.expr) (F.post self.now.grammar.expr) (G.pre self.now.grammar.params) (G.post self.now.grammar.params) }
+        ensures reads { Reads (reader.prefixed self.now.grammar.names.now (below self.now.grammar.names.now self.now.grammar.depth) mark tokens.old) result tokens.new }
+        ensures height { IfOk result (λ o. o.height ≤ 1 + (self.now.grammar.depth - 1)) }
     {
         match mark {
             Mark::LeftParenthesis => self.cast(tokens),
             Mark::Increment => {
-                let (inside, height) = self.inner_expr(tokens, UNARY_LEVEL)?;
+                let (inside, height) = self.grammar.inner_expr(tokens, UNARY_LEVEL)?;
                 Operand::new(
-                    self.alloc,
+                    self.grammar.alloc,
                     UNARY_LEVEL,
                     Expr::PreIncrement(inside),
                     1 + height,
                 )
             }
             Mark::Decrement => {
-                let (inside, height) = self.inner_expr(tokens, UNARY_LEVEL)?;
+                let (inside, height) = self.grammar.inner_expr(tokens, UNARY_LEVEL)?;
                 Operand::new(
-                    self.alloc,
+                    self.grammar.alloc,
                     UNARY_LEVEL,
                     Expr::PreDecrement(inside),
                     1 + height,
@@ -284,11 +287,11 @@ where
     }
 
     /// What begins an expression: a primary without parentheses, or a prefix operator and its operand.
-    #[tactic(auto, unfolding(crate::specs::inner::Readers::head))]
+    #[tactic(auto, unfolding(c_declarators::specs::inner::Readers::head))]
     fn head(&self, tokens: &mut Cursor<'_>) -> Result<Operand, Failure>
-        requires { Nests self.now.depth (F.pre self.now.expr) (F.post self.now.expr) (G.pre self.now.params) (G.post self.now.params) }
-        ensures reads { Reads (reader.head self.now.names.now (below self.now.names.now self.now.depth) tokens.old) result tokens.new }
-        ensures height { IfOk result (λ o. o.height ≤ 1 + (self.now.depth - 1)) }
+        requires { Nests self.now.grammar.depth (F.pre self.now.grammar.expr) (F.post self.now.grammar.expr) (G.pre self.now.grammar.params) (G.post self.now.grammar.params) }
+        ensures reads { Reads (reader.head self.now.grammar.names.now (below self.now.grammar.names.now self.now.grammar.depth) tokens.old) result tokens.new }
+        ensures height { IfOk result (λ o. o.height ≤ 1 + (self.now.grammar.depth - 1)) }
     {
         let Some(kind) = tokens.peek() else {
             return Err(Failure::Mismatch);
@@ -296,16 +299,16 @@ where
         tokens.skip();
         match kind {
             Kind::Name(name) => {
-                if self.names.contains(name.as_slice()) {
+                if self.grammar.names.contains(name.as_slice()) {
                     return Err(Failure::Mismatch);
                 }
-                let name = name_of(self.alloc, name)?;
-                Operand::leaf(self.alloc, Expr::Identifier(name))
+                let name = name_of(self.grammar.alloc, name)?;
+                Operand::leaf(self.grammar.alloc, Expr::Identifier(name))
             }
-            Kind::Number(n) => Operand::leaf(self.alloc, Expr::Number(*n)),
+            Kind::Number(n) => Operand::leaf(self.grammar.alloc, Expr::Number(*n)),
             Kind::Text(bytes) => {
-                let bytes = Items::from_slice(self.alloc, bytes.as_slice())?;
-                Operand::leaf(self.alloc, Expr::Text(bytes))
+                let bytes = Items::from_slice(self.grammar.alloc, bytes.as_slice())?;
+                Operand::leaf(self.grammar.alloc, Expr::Text(bytes))
             }
             Kind::Word(Keyword::Sizeof) => self.sizeof(tokens),
             Kind::Word(_) => Err(Failure::Mismatch),
@@ -314,17 +317,17 @@ where
     }
 
     /// An expression of this level or a tighter one.
-    #[tactic(auto, unfolding(crate::specs::inner::Readers::level, crate::specs::inner::Readers::level_in))]
+    #[tactic(auto, unfolding(c_declarators::specs::inner::Readers::level, c_declarators::specs::inner::Readers::level_in))]
     pub fn level(
         &self,
         tokens: &mut Cursor<'_>,
         least: usize,
     ) -> Result<(Boxed<Expr>, usize), Failure>
-        requires { Nests self.now.depth (F.pre self.now.expr) (F.post self.now.expr) (G.pre self.now.params) (G.post self.now.params) }
-        ensures reads { Reads (reader.level self.now.names.now (below self.now.names.now self.now.depth) (self.now.depth - 1) least tokens.old) result tokens.new }
-        ensures height { IfOk result (λ e. e.1 ≤ 1 + (self.now.depth - 1)) }
+        requires { Nests self.now.grammar.depth (F.pre self.now.grammar.expr) (F.post self.now.grammar.expr) (G.pre self.now.grammar.params) (G.post self.now.grammar.params) }
+        ensures reads { Reads (reader.level self.now.grammar.names.now (below self.now.grammar.names.now self.now.grammar.depth) (self.now.grammar.depth - 1) least tokens.old) result tokens.new }
+        ensures height { IfOk result (λ e. e.1 ≤ 1 + (self.now.grammar.depth - 1)) }
     {
-        let pairs = opened(self.names, tokens);
+        let pairs = opened(self.grammar.names, tokens);
         let first = self.head(tokens)?;
         self.close(tokens, least, pairs, first)
     }

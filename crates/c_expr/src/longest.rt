@@ -4,11 +4,8 @@ ghost use Rattle.std.specs.Prelude.{◌≡◌, ◌-◌, ◌<◌, ◌≤◌, ◌^
 ghost use Rattle.c_tree.specs.Marks.{kinds_of};
 ghost use Rattle.c_expr.specs.LongestExpression.{IsLongestExpression, BeginsNoExpression};
 
-use crate::cursor::Cursor;
 use crate::depths::expr;
-use crate::error::Failure;
-use crate::level::ASSIGN_LEVEL;
-use crate::names::Names;
+use c_declarators::{ASSIGN_LEVEL, Cursor, Failure, Names};
 use c_tokens::Tokens;
 use c_tree::{Expr, TypeNames};
 use c_types::copy_name;

@@ -1,0 +1,5 @@
+pub mod Parser
+pub mod ParserLemmas
+pub mod Readers
+pub mod Reads
+pub mod Nests
