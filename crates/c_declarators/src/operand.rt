@@ -136,11 +136,7 @@ fn with_part(left: Boxed<Expr>, part: Part) -> Expr
 
 /// The operand with what goes on behind it, which is so high.
 #[tactic(auto, unfolding(crate::specs::inner::Readers::extended))]
-pub fn extended(
-    alloc: Global,
-    operand: Operand,
-    part: (Part, usize),
-) -> Result<Operand, AllocError>
+pub fn extended(alloc: Global, operand: Operand, part: (Part, usize)) -> Result<Operand, AllocError>
     requires low { operand.height < 2 ^ 32 }
     requires part_low { part.1 < 2 ^ 32 }
     ensures is { IfOk result (λ o. o ≡ reader.extended operand part) }

@@ -210,7 +210,12 @@ where
             tokens.expect(Mark::LeftParenthesis)?;
             let (word, height) = self.grammar.inner_type_word(tokens)?;
             tokens.expect(Mark::RightParenthesis)?;
-            return Operand::new(self.grammar.alloc, UNARY_LEVEL, Expr::SizeofType(word), 1 + height);
+            return Operand::new(
+                self.grammar.alloc,
+                UNARY_LEVEL,
+                Expr::SizeofType(word),
+                1 + height,
+            );
         }
         let (inside, height) = self.grammar.inner_expr(tokens, UNARY_LEVEL)?;
         Operand::new(
@@ -247,7 +252,12 @@ where
         ensures height { IfOk result (λ o. o.height ≤ 1 + (self.now.grammar.depth - 1)) }
     {
         let (inside, height) = self.grammar.inner_expr(tokens, CAST_LEVEL)?;
-        Operand::new(self.grammar.alloc, UNARY_LEVEL, Expr::Unary(op, inside), 1 + height)
+        Operand::new(
+            self.grammar.alloc,
+            UNARY_LEVEL,
+            Expr::Unary(op, inside),
+            1 + height,
+        )
     }
 
     /// What stands behind a mark that begins an expression.
