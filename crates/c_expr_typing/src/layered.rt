@@ -4,8 +4,8 @@ ghost use Rattle.std.specs.Prelude.{◌≡◌, IfOk};
 ghost use Rattle.c_expr_typing.specs.Trees as tree;
 
 use c_layers::{Layers, joined};
-use c_typed::{TypedAbstractDeclarator, TypedDeclarator, TypedDirect, TypedSuffix};
-use c_types::Name;
+use c_typed::{Declared, TypedAbstractDeclarator, TypedDeclarator, TypedDirect, TypedSuffix};
+use c_types::{Name, Ty};
 use sqlite_items::{Boxed, Items};
 use std::alloc::{AllocError, Global};
 
@@ -17,48 +17,86 @@ pub struct LayeredDeclarator {
     pub layers: Layers,
 }
 
+impl LayeredDeclarator {
+    /// The declarator with the type that it gives its name, and the name.
+    pub fn into_declared(self, ty: Ty) -> (Declared, Name)
+        ensures { result ≡ (tree.declared self.tree ty, self.name) }
+    {
+        let LayeredDeclarator {
+            tree,
+            name,
+            layers: _,
+        } = self;
+        let declared = Declared {
+            declarator: tree,
+            ty,
+        };
+        (declared, name)
+    }
+}
+
+/// A declarator without a name, and its layers.
+pub(crate) type LayeredAbstract = (TypedAbstractDeclarator, Layers);
+
 /// What stands inside, then the suffixes, then the stars.
 pub(crate) fn layered(
+    alloc: Global,
     stars: u32,
     inside: (TypedDirect, Name, Layers),
     suffixes: (Items<TypedSuffix>, Layers),
-) -> Result<LayeredDeclarator, AllocError>
+) -> Result<Boxed<LayeredDeclarator>, AllocError>
     ensures { IfOk result (λ declarator. declarator ≡ tree.layered stars inside suffixes) }
 {
     let (direct, name, layers) = inside;
     let (suffixes, behind) = suffixes;
     let layers = joined(layers, behind, stars)?;
-    Ok(LayeredDeclarator {
-        tree: TypedDeclarator {
-            stars,
-            direct,
-            suffixes,
+    Boxed::new(
+        alloc,
+        LayeredDeclarator {
+            tree: TypedDeclarator {
+                stars,
+                direct,
+                suffixes,
+            },
+            name,
+            layers,
         },
-        name,
-        layers,
-    })
+    )
 }
 
 /// The same of a declarator without a name.
 pub(crate) fn abstract_layered(
     alloc: Global,
     stars: u32,
-    inside: Option<(TypedAbstractDeclarator, Layers)>,
+    inside: Option<Boxed<LayeredAbstract>>,
     suffixes: (Items<TypedSuffix>, Layers),
-) -> Result<(TypedAbstractDeclarator, Layers), AllocError>
+) -> Result<Boxed<LayeredAbstract>, AllocError>
     ensures { IfOk result
         (λ declarator. declarator ≡ tree.abstract_layered stars inside suffixes) }
 {
     let (suffixes, behind) = suffixes;
-    let (bracketed, layers) = match inside {
-        None => (None, Items::new(alloc)),
-        Some((inner, layers)) => (Some(Boxed::new(alloc, inner)?), layers),
-    };
+    let (bracketed, layers) = abstract_inside(alloc, inside)?;
     let layers = joined(layers, behind, stars)?;
     let declarator = TypedAbstractDeclarator {
         stars,
         bracketed,
         suffixes,
     };
-    Ok((declarator, layers))
+    Boxed::new(alloc, (declarator, layers))
+}
+
+/// The tree inside, by itself in memory, and its layers.
+fn abstract_inside(
+    alloc: Global,
+    inside: Option<Boxed<LayeredAbstract>>,
+) -> Result<(Option<Boxed<TypedAbstractDeclarator>>, Layers), AllocError>
+    ensures { IfOk result (λ it. it ≡ (tree.tree_inside inside, tree.layers_inside inside)) }
+{
+    match inside {
+        None => Ok((None, Items::new(alloc))),
+        Some(inside) => {
+            let (inner, layers) = inside.into_inner();
+            Ok((Some(Boxed::new(alloc, inner)?), layers))
+        }
+    }
 }

@@ -1,15 +1,19 @@
-//! The rules of declarators and specs behind their parts.
+//! The rules of declarators and specs behind their parts, which come in boxes: where a rule is
+//! broken, a box is dropped as one thing.
 
 ghost use Rattle.std.specs.Prelude.{◌≡◌};
 ghost use Rattle.std.specs.Option.{option_copied};
 ghost use Rattle.c_expr_typing.specs.Trees as tree;
+ghost use Rattle.c_expr_typing.specs.inner.Walked.{twice, with_list};
+ghost use Rattle.c_scope.specs.Declarations.{member_type as type_of_member, parameter as type_of_parameter};
 ghost use Rattle.c_scope.specs.Walks.{Walks};
 
-use crate::layered::LayeredDeclarator;
-use c_layers::{Layers, Parameter};
+use crate::layered::{LayeredAbstract, LayeredDeclarator};
+use c_layers::{Layer, Parameter};
 use c_scope::{Failure, Meaning, Rule, World, member_type, parameter, tag, test, word_type};
-use c_typed::{Constant, Declared, TypedAbstractDeclarator, TypedParam, TypedSpec, TypedTypeWord};
+use c_typed::{Constant, Declared, TypedParam, TypedSpec, TypedTypeWord};
 use c_types::{Member, Name, Ty, copy_name, copy_type};
+use sqlite_items::Boxed;
 use std::alloc::Global;
 use tables::Table;
 
@@ -26,62 +30,83 @@ pub(crate) fn constant_bound(_world: &World, constant: Constant) -> Result<u32, 
     Ok(value as u32)
 }
 
+/// A parameter's type: one for its tree and one for its function.
+fn parameter_types(
+    alloc: Global,
+    world: &mut World,
+    name: Option<&Name>,
+    base: &Ty,
+    layers: &[Layer],
+) -> Result<(Ty, Ty), Failure>
+    ensures { let found = type_of_parameter (option_copied name.entry) base.now layers.now
+        in Walks (twice found world.old) result world.new }
+{
+    let ty = parameter(alloc, world, name, copy_type(base)?, layers)?;
+    let again = copy_type(&ty)?;
+    Ok((ty, again))
+}
+
+/// The spec alone.
+pub(crate) fn spec_of(base: Boxed<(TypedSpec, Ty)>) -> TypedSpec
+    ensures { result ≡ base.0 }
+{
+    let (spec, _) = base.into_inner();
+    spec
+}
+
 /// A parameter with a name.
 pub(crate) fn named_param(
     alloc: Global,
     world: &mut World,
-    base: (TypedSpec, Ty),
-    declarator: LayeredDeclarator,
+    base: Boxed<(TypedSpec, Ty)>,
+    declarator: Boxed<LayeredDeclarator>,
 ) -> Result<(TypedParam, Parameter), Failure>
     ensures { Walks (tree.named_param base declarator world.old) result world.new }
 {
-    let (spec, base) = base;
-    let LayeredDeclarator { tree, name, layers } = declarator;
-    let ty = parameter(alloc, world, Some(&name), base, layers.as_slice())?;
+    let whole = declarator.get();
+    let layers = whole.layers.as_slice();
+    let (ty, again) = parameter_types(alloc, world, Some(&whole.name), &base.get().1, layers)?;
+    let (declared, name) = declarator.into_inner().into_declared(ty);
     let param = Parameter {
         name: Some(name),
-        ty: copy_type(&ty)?,
+        ty: again,
     };
-    let declarator = Declared {
-        declarator: tree,
-        ty,
-    };
-    Ok((TypedParam::Named(spec, declarator), param))
+    Ok((TypedParam::Named(spec_of(base), declared), param))
 }
 
 /// A parameter without a name.
 pub(crate) fn unnamed_param(
     alloc: Global,
     world: &mut World,
-    base: (TypedSpec, Ty),
-    declarator: (TypedAbstractDeclarator, Layers),
+    base: Boxed<(TypedSpec, Ty)>,
+    declarator: Boxed<LayeredAbstract>,
 ) -> Result<(TypedParam, Parameter), Failure>
     ensures { Walks (tree.unnamed_param base declarator world.old) result world.new }
 {
-    let (spec, base) = base;
-    let (declarator, layers) = declarator;
-    let ty = parameter(alloc, world, None, base, layers.as_slice())?;
+    let layers = declarator.get().1.as_slice();
+    let (ty, again) = parameter_types(alloc, world, None, &base.get().1, layers)?;
+    let (declarator, _) = declarator.into_inner();
     let param = Parameter {
         name: None,
-        ty: copy_type(&ty)?,
+        ty: again,
     };
-    Ok((TypedParam::Unnamed(spec, declarator, ty), param))
+    Ok((TypedParam::Unnamed(spec_of(base), declarator, ty), param))
 }
 
 /// A type word.
 pub(crate) fn whole_word(
     alloc: Global,
     world: &World,
-    base: (TypedSpec, Ty),
-    declarator: (TypedAbstractDeclarator, Layers),
+    base: Boxed<(TypedSpec, Ty)>,
+    declarator: Boxed<LayeredAbstract>,
 ) -> Result<TypedTypeWord, Failure>
     ensures { Walks (tree.whole_word base declarator world.now) result world.now }
 {
-    let (spec, base) = base;
-    let (declarator, layers) = declarator;
-    let ty = word_type(alloc, world, base, layers.as_slice())?;
+    let layers = declarator.get().1.as_slice();
+    let ty = word_type(alloc, world, copy_type(&base.get().1)?, layers)?;
+    let (declarator, _) = declarator.into_inner();
     Ok(TypedTypeWord {
-        spec,
+        spec: spec_of(base),
         declarator,
         ty,
     })
@@ -132,33 +157,44 @@ pub(crate) fn body_tag(
     Ok(number)
 }
 
-/// One declarator of members that stand behind these.
+/// A member's type, as `parameter_types`.
+fn member_types(
+    alloc: Global,
+    world: &World,
+    before: &Table<Member>,
+    base: &Ty,
+    declarator: &LayeredDeclarator,
+) -> Result<(Ty, Ty), Failure>
+    ensures { let d = declarator.now
+        in let found = type_of_member before.now d.name base.now d.layers
+        in Walks (twice found world.now) result world.now }
+{
+    let layers = declarator.layers.as_slice();
+    let ty = member_type(
+        alloc,
+        world,
+        before,
+        &declarator.name,
+        copy_type(base)?,
+        layers,
+    )?;
+    let again = copy_type(&ty)?;
+    Ok((ty, again))
+}
+
+/// One declarator of members, which stands behind these.
 pub(crate) fn one_member(
     alloc: Global,
     world: &World,
     base: &Ty,
-    declarator: LayeredDeclarator,
-    before: Table<Member>,
-) -> Result<(Declared, Table<Member>), Failure>
-    ensures { Walks (tree.one_member base.now declarator before world.now) result world.now }
+    declarator: Boxed<LayeredDeclarator>,
+    members: &mut Table<Member>,
+) -> Result<Declared, Failure>
+    ensures { let found = tree.one_member base.now declarator members.old world.now
+        in Walks found (with_list result members.new) world.now }
 {
-    let LayeredDeclarator { tree, name, layers } = declarator;
-    let ty = member_type(
-        alloc,
-        world,
-        &before,
-        &name,
-        copy_type(base)?,
-        layers.as_slice(),
-    )?;
-    let mut members = before;
-    members.push(Member {
-        name,
-        ty: copy_type(&ty)?,
-    })?;
-    let declared = Declared {
-        declarator: tree,
-        ty,
-    };
-    Ok((declared, members))
+    let (ty, again) = member_types(alloc, world, members, base, declarator.get())?;
+    let (declared, name) = declarator.into_inner().into_declared(ty);
+    members.push(Member { name, ty: again })?;
+    Ok(declared)
 }

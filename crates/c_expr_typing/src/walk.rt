@@ -1,18 +1,20 @@
 //! The walk of expressions and of what stands in them. The trees contain one another, so the
 //! functions call one another: an expression has type words, whose bounds are expressions.
 
-ghost use Rattle.std.specs.Prelude.{◌≡◌, map, []};
+ghost use Rattle.std.specs.Prelude.{◌≡◌, ◌++◌, ◌∷◌, [], map, OnOk};
 ghost use Rattle.c_expr_typing.specs.Trees as tree;
 ghost use Rattle.c_expr_typing.specs.Trees.{walked};
+ghost use Rattle.c_expr_typing.specs.inner.Walked.{with_list};
+ghost use Rattle.c_scope.specs.Scopes.{within};
 ghost use Rattle.c_scope.specs.Walk.{each_pair, maybe};
 ghost use Rattle.c_scope.specs.Walks.{Walks};
 ghost use Rattle.c_tree.specs.Fold.{expr_node};
 ghost use Rattle.std.specs.Option.{option_map};
 
-use crate::layered::{LayeredDeclarator, abstract_layered, layered};
+use crate::layered::{LayeredAbstract, LayeredDeclarator, abstract_layered, layered};
 use crate::parts::{
-    body_tag, constant_bound, named_param, one_member, struct_spec, type_name, unnamed_param,
-    whole_word,
+    body_tag, constant_bound, named_param, one_member, spec_of, struct_spec, type_name,
+    unnamed_param, whole_word,
 };
 use c_layers::{Layer, Layers, Parameter, Parameters};
 use c_rules::{
@@ -25,18 +27,18 @@ use c_tree::{
     AbstractDeclarator, Declarator, Direct, Expr, MemberDecl, Param, Params, Spec, Suffix, TypeWord,
 };
 use c_typed::{
-    Declared, TypedAbstractDeclarator, TypedDirect, TypedExpr, TypedMemberDecl, TypedParam,
-    TypedParams, TypedSpec, TypedSuffix, TypedTypeWord,
+    Declared, TypedDirect, TypedExpr, TypedMemberDecl, TypedParam, TypedParams, TypedSpec,
+    TypedSuffix, TypedTypeWord,
 };
 use c_types::{Member, Name, Ty, copy_name};
 use sqlite_items::{Boxed, Items};
-use std::alloc::Global;
+use std::alloc::{AllocError, Global};
 use tables::Table;
 
 /// The most parameters of a function.
 const MOST_PARAMETERS: usize = 8;
 
-/// The typed form of an expression.
+/// The typed form of an expression, on the heap.
 ///
 /// # Errors
 ///
@@ -48,10 +50,11 @@ pub fn expression(
     world: &mut World,
     expr: &Expr,
     place: Place,
-) -> Result<TypedExpr, Failure>
+) -> Result<Boxed<TypedExpr>, Failure>
     ensures { Walks (walked.expr expr.now place world.old) result world.new }
 {
-    expression_node(alloc, world, expr, place)
+    let x = expression_node(alloc, world, expr, place)?;
+    Ok(Boxed::new(alloc, x)?)
 }
 
 /// Its parts, and then its rules.
@@ -92,19 +95,19 @@ fn expression_node(
             cast(world, word, a)
         }
         Expr::PreIncrement(a) => {
-            let a = operand(alloc, world, a.get(), Place::Value)?;
+            let a = expression(alloc, world, a.get(), Place::Value)?;
             pre_increment(alloc, world, a)
         }
         Expr::PreDecrement(a) => {
-            let a = operand(alloc, world, a.get(), Place::Value)?;
+            let a = expression(alloc, world, a.get(), Place::Value)?;
             pre_decrement(alloc, world, a)
         }
         Expr::Unary(operator, a) => {
-            let a = operand(alloc, world, a.get(), Place::Value)?;
+            let a = expression(alloc, world, a.get(), Place::Value)?;
             unary(alloc, world, *operator, a)
         }
         Expr::SizeofExpr(a) => {
-            let a = operand(alloc, world, a.get(), Place::Value)?;
+            let a = expression(alloc, world, a.get(), Place::Value)?;
             size_of_value(world, a)
         }
         Expr::SizeofType(word) => {
@@ -117,39 +120,25 @@ fn expression_node(
         }
         Expr::Call(callee, given) => called(alloc, world, callee.get(), given),
         Expr::Member(a, name) => {
-            let a = operand(alloc, world, a.get(), Place::Value)?;
+            let a = expression(alloc, world, a.get(), Place::Value)?;
             member(alloc, world, a, name)
         }
         Expr::Arrow(a, name) => {
-            let a = operand(alloc, world, a.get(), Place::Value)?;
+            let a = expression(alloc, world, a.get(), Place::Value)?;
             arrow(alloc, world, a, name)
         }
         Expr::PostIncrement(a) => {
-            let a = operand(alloc, world, a.get(), Place::Value)?;
+            let a = expression(alloc, world, a.get(), Place::Value)?;
             post_increment(alloc, world, a)
         }
         Expr::PostDecrement(a) => {
-            let a = operand(alloc, world, a.get(), Place::Value)?;
+            let a = expression(alloc, world, a.get(), Place::Value)?;
             post_decrement(alloc, world, a)
         }
         Expr::Identifier(name) => identifier(alloc, world, name, place),
         Expr::Number(value) => number(world, *value),
         Expr::Text(bytes) => text(alloc, world, bytes.as_slice()),
     }
-}
-
-/// An operand, on the heap.
-#[cycle(walk)]
-fn operand(
-    alloc: Global,
-    world: &mut World,
-    a: &Expr,
-    place: Place,
-) -> Result<Boxed<TypedExpr>, Failure>
-    ensures { Walks (walked.expr a.now place world.old) result world.new }
-{
-    let x = expression(alloc, world, a, place)?;
-    Ok(Boxed::new(alloc, x)?)
 }
 
 /// Two operands.
@@ -162,8 +151,8 @@ fn operands(
 ) -> Result<(Boxed<TypedExpr>, Boxed<TypedExpr>), Failure>
     ensures { Walks (tree.operands (walked.expr a.now) (walked.expr b.now) world.old) result world.new }
 {
-    let x = operand(alloc, world, a, Place::Value)?;
-    let y = operand(alloc, world, b, Place::Value)?;
+    let x = expression(alloc, world, a, Place::Value)?;
+    let y = expression(alloc, world, b, Place::Value)?;
     Ok((x, y))
 }
 
@@ -179,7 +168,7 @@ fn arms(
     ensures { Walks (tree.arms (walked.expr c.now) (walked.expr a.now) (walked.expr b.now) world.old)
         result world.new }
 {
-    let c = operand(alloc, world, c, Place::Value)?;
+    let c = expression(alloc, world, c, Place::Value)?;
     let (x, y) = operands(alloc, world, a, b)?;
     Ok((c, x, y))
 }
@@ -196,7 +185,7 @@ fn cast_parts(
         result world.new }
 {
     let word = boxed_word(alloc, world, word)?;
-    let a = operand(alloc, world, a, Place::Value)?;
+    let a = expression(alloc, world, a, Place::Value)?;
     Ok((word, a))
 }
 
@@ -211,7 +200,7 @@ fn called(
     ensures { Walks (tree.called (walked.expr callee.now) (map walked.expr given.now) world.old)
         result world.new }
 {
-    let callee = operand(alloc, world, callee, Place::Callee)?;
+    let callee = expression(alloc, world, callee, Place::Callee)?;
     let given = arguments(alloc, world, given.as_slice())?;
     call(alloc, world, callee, given)
 }
@@ -224,7 +213,7 @@ fn arguments(alloc: Global, world: &mut World, all: &[Expr]) -> Result<Items<Typ
 {
     let mut found = Items::new(alloc);
     for argument in all {
-        found.push(expression(alloc, world, argument, Place::Value)?)?;
+        found.push(expression(alloc, world, argument, Place::Value)?.into_inner())?;
     }
     Ok(found)
 }
@@ -260,7 +249,7 @@ fn abstract_declarator(
     alloc: Global,
     world: &mut World,
     declarator: &AbstractDeclarator,
-) -> Result<(TypedAbstractDeclarator, Layers), Failure>
+) -> Result<Boxed<LayeredAbstract>, Failure>
     ensures { Walks (walked.abstract declarator.now world.old) result world.new }
 {
     let inside = bracketed(alloc, world, &declarator.bracketed)?;
@@ -274,7 +263,7 @@ fn bracketed(
     alloc: Global,
     world: &mut World,
     inside: &Option<Boxed<AbstractDeclarator>>,
-) -> Result<Option<(TypedAbstractDeclarator, Layers)>, Failure>
+) -> Result<Option<Boxed<LayeredAbstract>>, Failure>
     ensures { Walks (maybe (option_map walked.abstract inside.now) world.old) result world.new }
 {
     match inside {
@@ -283,7 +272,7 @@ fn bracketed(
     }
 }
 
-/// The typed form of a declarator, with its name and its layers.
+/// The typed form of a declarator, with its name and its layers, on the heap.
 ///
 /// # Errors
 ///
@@ -294,12 +283,12 @@ pub fn declarator(
     alloc: Global,
     world: &mut World,
     declarator: &Declarator,
-) -> Result<LayeredDeclarator, Failure>
+) -> Result<Boxed<LayeredDeclarator>, Failure>
     ensures { Walks (walked.declarator declarator.now world.old) result world.new }
 {
     let inside = direct(alloc, world, &declarator.direct)?;
     let suffixes = suffixes(alloc, world, declarator.suffixes.as_slice())?;
-    Ok(layered(declarator.stars, inside, suffixes)?)
+    Ok(layered(alloc, declarator.stars, inside, suffixes)?)
 }
 
 /// What a declarator's stars and suffixes stand round.
@@ -322,7 +311,8 @@ fn direct(
             ))
         }
         Direct::Bracketed(inside) => {
-            let LayeredDeclarator { tree, name, layers } = declarator(alloc, world, inside.get())?;
+            let inside = declarator(alloc, world, inside.get())?;
+            let LayeredDeclarator { tree, name, layers } = inside.into_inner();
             Ok((
                 TypedDirect::Bracketed(Boxed::new(alloc, tree)?),
                 name,
@@ -330,6 +320,20 @@ fn direct(
             ))
         }
     }
+}
+
+/// Each of two lists gets its part of a pair.
+fn push_both<A: Drop, B: Drop>(
+    firsts: &mut Items<A>,
+    seconds: &mut Items<B>,
+    both: (A, B),
+) -> Result<(), AllocError>
+    ensures first { OnOk result (firsts.new ≡ firsts.old ++ both.0 ∷ []) }
+    ensures second { OnOk result (seconds.new ≡ seconds.old ++ both.1 ∷ []) }
+{
+    let (first, second) = both;
+    firsts.push(first)?;
+    seconds.push(second)
 }
 
 /// Suffixes, and their layers.
@@ -345,9 +349,8 @@ fn suffixes(
     let mut found = Items::new(alloc);
     let mut layers = Items::new(alloc);
     for one in all {
-        let (suffix, layer) = suffix(alloc, world, one)?;
-        found.push(suffix)?;
-        layers.push(layer)?;
+        let made = suffix(alloc, world, one)?;
+        push_both(&mut found, &mut layers, made)?;
     }
     Ok((found, layers))
 }
@@ -381,8 +384,11 @@ fn bounded(alloc: Global, world: &mut World, value: &Expr) -> Result<(TypedSuffi
     ensures { Walks (tree.bounded (walked.expr value.now) world.old) result world.new }
 {
     let value = expression(alloc, world, value, Place::Value)?;
-    let bound = constant_bound(world, value.constant)?;
-    Ok((TypedSuffix::Array(Some(value)), Layer::Array(Some(bound))))
+    let bound = constant_bound(world, value.get().constant)?;
+    Ok((
+        TypedSuffix::Array(Some(value.into_inner())),
+        Layer::Array(Some(bound)),
+    ))
 }
 
 /// The parameters of a function.
@@ -399,13 +405,26 @@ fn parameters(
         Params::Nothing => Ok((TypedParams::Nothing, Items::new(alloc))),
         Params::VoidAlone => Ok((TypedParams::VoidAlone, Items::new(alloc))),
         Params::List(all) => {
-            world.enter()?;
-            let (found, params) = parameter_list(alloc, world, all.as_slice())?;
-            world.leave()?;
+            let (found, params) = scoped_parameters(alloc, world, all.as_slice())?;
             test(Rule::Form, params.len() <= MOST_PARAMETERS)?;
             Ok((TypedParams::List(found), params))
         }
     }
+}
+
+/// At least one parameter, in a scope of their own.
+#[cycle(walk)]
+fn scoped_parameters(
+    alloc: Global,
+    world: &mut World,
+    all: &[Param],
+) -> Result<(Items<TypedParam>, Parameters), Failure>
+    ensures { Walks (within (each_pair (map walked.param all.now)) world.old) result world.new }
+{
+    world.enter()?;
+    let found = parameter_list(alloc, world, all)?;
+    world.leave()?;
+    Ok(found)
 }
 
 /// At least one parameter.
@@ -421,9 +440,8 @@ fn parameter_list(
     let mut found = Items::new(alloc);
     let mut params = Items::new(alloc);
     for one in all {
-        let (typed, param) = param(alloc, world, one)?;
-        found.push(typed)?;
-        params.push(param)?;
+        let made = param(alloc, world, one)?;
+        push_both(&mut found, &mut params, made)?;
     }
     Ok((found, params))
 }
@@ -452,14 +470,29 @@ fn param(
     }
 }
 
-/// The typed form of a spec, and its type. A struct's body stands only where `bodies` says so.
+/// The typed form of a spec, and its type, on the heap. A struct's body stands only where `bodies`
+/// says so.
 ///
 /// # Errors
 ///
 /// `Broken`, at the first rule that is broken. `Memory`, where no memory is left.
 #[cycle(walk)]
-#[tactic(auto, using(crate::proofs::Forms::specs))]
 pub fn spec(
+    alloc: Global,
+    world: &mut World,
+    spec: &Spec,
+    bodies: bool,
+) -> Result<Boxed<(TypedSpec, Ty)>, Failure>
+    ensures { Walks (walked.spec spec.now bodies world.old) result world.new }
+{
+    let found = spec_node(alloc, world, spec, bodies)?;
+    Ok(Boxed::new(alloc, found)?)
+}
+
+/// A spec, by its form.
+#[cycle(walk)]
+#[tactic(auto, using(crate::proofs::Forms::specs))]
+fn spec_node(
     alloc: Global,
     world: &mut World,
     spec: &Spec,
@@ -492,7 +525,8 @@ fn struct_body(
         result world.new }
 {
     let number = body_tag(alloc, world, name, bodies)?;
-    let (body, found) = members(alloc, world, all)?;
+    let mut found = Table::new(alloc);
+    let body = members(alloc, world, all, &mut found)?;
     define(world, number, found.into_items())?;
     Ok((
         TypedSpec::Struct(copy_name(alloc, name)?, Some(body)),
@@ -500,49 +534,47 @@ fn struct_body(
     ))
 }
 
-/// The lines of a struct's body.
+/// The lines of a struct's body, whose members stand behind these.
 #[cycle(walk)]
 #[tactic(auto, using(crate::proofs::MemberLists::member_lists))]
 fn members(
     alloc: Global,
     world: &mut World,
     all: &[MemberDecl],
-) -> Result<(Items<TypedMemberDecl>, Table<Member>), Failure>
-    ensures { Walks (tree.members (map walked.member all.now) [] world.old) result world.new }
+    members: &mut Table<Member>,
+) -> Result<Items<TypedMemberDecl>, Failure>
+    ensures { let found = tree.members (map walked.member all.now) members.old world.old
+        in Walks found (with_list result members.new) world.new }
 {
     let mut found = Items::new(alloc);
-    let mut members = Table::new(alloc);
     for line in all {
-        let (decl, behind) = member_decl(alloc, world, line, members)?;
-        members = behind;
-        found.push(decl)?;
+        found.push(member_decl(alloc, world, line, members)?)?;
     }
-    Ok((found, members))
+    Ok(found)
 }
 
-/// One line of a struct's body, behind these members.
+/// One line of a struct's body, whose members stand behind these.
 #[cycle(walk)]
 #[tactic(auto, using(crate::proofs::Forms::members))]
 fn member_decl(
     alloc: Global,
     world: &mut World,
     line: &MemberDecl,
-    before: Table<Member>,
-) -> Result<(TypedMemberDecl, Table<Member>), Failure>
-    ensures { Walks (walked.member line.now before world.old) result world.new }
+    members: &mut Table<Member>,
+) -> Result<TypedMemberDecl, Failure>
+    ensures { let found = walked.member line.now members.old world.old
+        in Walks found (with_list result members.new) world.new }
 {
-    let (spec, base) = spec(alloc, world, &line.spec, false)?;
-    let (declarators, members) = member_declarators(
-        alloc,
-        world,
-        &base,
-        line.declarators.as_slice(),
-        before,
-    )?;
-    Ok((TypedMemberDecl { spec, declarators }, members))
+    let base = spec(alloc, world, &line.spec, false)?;
+    let all = line.declarators.as_slice();
+    let declarators = member_declarators(alloc, world, &base.get().1, all, members)?;
+    Ok(TypedMemberDecl {
+        spec: spec_of(base),
+        declarators,
+    })
 }
 
-/// The declarators of a line of a struct's body, behind these members.
+/// The declarators of a line of a struct's body, which stand behind these members.
 #[cycle(walk)]
 #[tactic(auto, using(crate::proofs::MemberLists::member_lists))]
 fn member_declarators(
@@ -550,18 +582,16 @@ fn member_declarators(
     world: &mut World,
     base: &Ty,
     all: &[Declarator],
-    before: Table<Member>,
-) -> Result<(Items<Declared>, Table<Member>), Failure>
-    ensures { Walks (tree.member_declarators base.now (map walked.declarator all.now) before world.old)
-        result world.new }
+    members: &mut Table<Member>,
+) -> Result<Items<Declared>, Failure>
+    ensures { let ds = map walked.declarator all.now
+        in let found = tree.member_declarators base.now ds members.old world.old
+        in Walks found (with_list result members.new) world.new }
 {
     let mut found = Items::new(alloc);
-    let mut members = before;
     for one in all {
         let inside = declarator(alloc, world, one)?;
-        let (declared, behind) = one_member(alloc, world, base, inside, members)?;
-        members = behind;
-        found.push(declared)?;
+        found.push(one_member(alloc, world, base, inside, members)?)?;
     }
-    Ok((found, members))
+    Ok(found)
 }

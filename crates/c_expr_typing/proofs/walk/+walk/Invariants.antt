@@ -1,4 +1,4 @@
-use Rattle.std.proofs.Common.{◌≡◌, ℕ, ◌+◌, ◌*◌, drop, map, max, [], Option, Some, None}
+use Rattle.std.proofs.Common.{◌≡◌, ℕ, ◌+◌, ◌*◌, drop, map, max, Option, Some, None}
 use denote.Param.Weighed.{most}
 use Rattle.c_tree.specs.declared.expression.AbstractDeclarator.{AbstractDeclarator, size-AbstractDeclarator}
 use Rattle.c_tree.specs.declared.expression.Declarator.{size-Declarator}
@@ -20,16 +20,13 @@ use Rattle.c_expr_typing.proofs.walk.+walk.Given as goal
 -- Each call is of a part, or of the same tree by a function with a lesser rest.
 
 abbrev pub decreases-expression : goal.decreases-expression
-decreases-expression l = 6 * size-Expr l.expr.now + 1
+decreases-expression l = 6 * size-Expr l.expr.now + 2
 
 abbrev pub decreases-expression_node : goal.decreases-expression_node
 decreases-expression_node l = 6 * size-Expr l.expr.now
 
 abbrev pub decreases-operands : goal.decreases-operands
 decreases-operands l = 6 * max (size-Expr l.a.now) (size-Expr l.b.now) + 3
-
-abbrev pub decreases-operand : goal.decreases-operand
-decreases-operand l = 6 * size-Expr l.a.now + 2
 
 abbrev pub decreases-arms : goal.decreases-arms
 decreases-arms l = 6 * max (size-Expr l.c.now) (max (size-Expr l.a.now) (size-Expr l.b.now)) + 4
@@ -38,10 +35,10 @@ abbrev pub decreases-cast_parts : goal.decreases-cast_parts
 decreases-cast_parts l = 6 * max (size-TypeWord l.word.now) (size-Expr l.a.now) + 3
 
 abbrev pub decreases-called : goal.decreases-called
-decreases-called l = 6 * max (size-Expr l.callee.now) (most size-Expr l.given.now) + 3
+decreases-called l = 6 * max (size-Expr l.callee.now) (most size-Expr l.given.now) + 4
 
 abbrev pub decreases-arguments : goal.decreases-arguments
-decreases-arguments l = 6 * most size-Expr l.all.now + 2
+decreases-arguments l = 6 * most size-Expr l.all.now + 3
 
 abbrev pub decreases-type_word : goal.decreases-type_word
 decreases-type_word l = 6 * size-TypeWord l.word.now
@@ -72,10 +69,13 @@ abbrev pub decreases-suffix : goal.decreases-suffix
 decreases-suffix l = 6 * size-Suffix l.suffix.now + 1
 
 abbrev pub decreases-bounded : goal.decreases-bounded
-decreases-bounded l = 6 * size-Expr l.value.now + 2
+decreases-bounded l = 6 * size-Expr l.value.now + 3
 
 abbrev pub decreases-parameters : goal.decreases-parameters
 decreases-parameters l = 6 * size-Params l.params.now
+
+abbrev pub decreases-scoped_parameters : goal.decreases-scoped_parameters
+decreases-scoped_parameters l = 6 * most size-Param l.all.now + 3
 
 abbrev pub decreases-parameter_list : goal.decreases-parameter_list
 decreases-parameter_list l = 6 * most size-Param l.all.now + 2
@@ -84,7 +84,10 @@ abbrev pub decreases-param : goal.decreases-param
 decreases-param l = 6 * size-Param l.param.now + 1
 
 abbrev pub decreases-spec : goal.decreases-spec
-decreases-spec l = 6 * size-Spec l.spec.now
+decreases-spec l = 6 * size-Spec l.spec.now + 1
+
+abbrev pub decreases-spec_node : goal.decreases-spec_node
+decreases-spec_node l = 6 * size-Spec l.spec.now
 
 abbrev pub decreases-struct_body : goal.decreases-struct_body
 decreases-struct_body l = 6 * most size-MemberDecl l.all.now + 3
@@ -114,7 +117,7 @@ invariant-parameter_list-loop-one l =
 
 abbrev pub invariant-members-loop-line : goal.invariant-members-loop-line
 invariant-members-loop-line l =
-    members_from l.found (map walked.member (drop l.line-index l.all)) l.members l.world ≡ members (map walked.member l.all) [] l.initial.world
+    members_from l.found (map walked.member (drop l.line-index l.all)) l.members l.world ≡ members (map walked.member l.all) l.initial.members l.initial.world
 
 abbrev pub invariant-member_declarators-loop-one : goal.invariant-member_declarators-loop-one
 invariant-member_declarators-loop-one l =
