@@ -11,7 +11,7 @@ use crate::initialisers::{initialiser, text_of};
 use c_expr_typing::{LayeredDeclarator, declarator, spec};
 use c_layers::{CheckedShape, Shape, checked_shape, limited};
 use c_operators::has_units;
-use c_scope::{Failure, Meaning, Rule, World, declare_function, declare_variable, found, test};
+use c_scope::{Failure, Meaning, Rule, World, declare_function, declare_variable, test};
 use c_tree::{Decl, Declarator, Init, InitDeclarator};
 use c_typed::{Declared, Entity, TypedDecl, TypedInit, TypedInitDeclarator};
 use c_types::{Name, Ty, copy_type, is_char};
@@ -104,19 +104,19 @@ fn declared_type(
     alloc: Global,
     world: &World,
     name: &Name,
-    shape: Shape,
+    shape: &Shape,
     fits: bool,
 ) -> Result<Ty, Failure>
-    ensures { Walks (spec.declared_type name.now shape fits world.now) result world.now }
+    ensures { Walks (spec.declared_type name.now shape.now fits world.now) result world.now }
 {
-    test(
-        Rule::Redeclared,
-        world.may_be_declared(alloc, name.bytes(), &shape)?,
-    )?;
-    let is_function = shape.is_function();
-    let ty = found(Rule::Unsized, shape.into_whole())?;
-    type_rules(world, is_function, &ty, fits)?;
-    Ok(ty)
+    if !world.may_be_declared(alloc, name.bytes(), shape)? {
+        return Err(Failure::Broken(Rule::Redeclared));
+    }
+    let Some(ty) = shape.whole() else {
+        return Err(Failure::Broken(Rule::Unsized));
+    };
+    type_rules(world, shape.is_function(), ty, fits)?;
+    Ok(copy_type(ty)?)
 }
 
 /// The type that a declarator gives its name.
@@ -138,8 +138,7 @@ fn shaped_type(
         layers,
     )?;
     let shape = completed(alloc, init, shape)?;
-    let ty = declared_type(alloc, world, &declarator.name, shape, results_fit)?;
-    Ok(ty)
+    declared_type(alloc, world, &declarator.name, &shape, results_fit)
 }
 
 /// Declares a variable or a function of this type.
@@ -229,13 +228,10 @@ fn init_declarator(
         world,
         is_global,
         base,
-        &inside,
+        inside.get(),
         one.init.as_ref(),
     )?;
-    let declared = Declared {
-        declarator: inside.tree,
-        ty,
-    };
+    let (declared, _) = inside.into_inner().into_declared(ty);
     Ok(TypedInitDeclarator {
         declared,
         entity,
@@ -276,28 +272,31 @@ pub fn declaration(
 ) -> Result<TypedDecl, Failure>
     ensures { Walks (spec.typed_decl is_global decl.now world.old) result world.new }
 {
-    let (spec, base) = spec(alloc, world, &decl.spec, is_global)?;
+    let base = spec(alloc, world, &decl.spec, is_global)?;
     let declarators = init_declarators(
         alloc,
         world,
         is_global,
-        &base,
+        &base.get().1,
         decl.declarators.as_slice(),
     )?;
+    let (spec, _) = base.into_inner();
     Ok(TypedDecl { spec, declarators })
 }
 
 /// The type of a type's name of this shape.
 #[tactic(auto, unfolding(crate::specs::Declarations::named_type))]
-fn named_type(world: &World, name: &Name, shape: Shape, fits: bool) -> Result<Ty, Failure>
-    ensures { Walks (spec.named_type name.now shape fits world.now) result world.now }
+fn named_type(world: &World, name: &Name, shape: &Shape, fits: bool) -> Result<Ty, Failure>
+    ensures { Walks (spec.named_type name.now shape.now fits world.now) result world.now }
 {
     if !world.is_free(name.bytes()) {
         return Err(Failure::Broken(Rule::Redeclared));
     }
-    let ty = found(Rule::Unsized, shape.into_whole())?;
+    let Some(ty) = shape.whole() else {
+        return Err(Failure::Broken(Rule::Unsized));
+    };
     test(Rule::Form, fits)?;
-    Ok(ty)
+    Ok(copy_type(ty)?)
 }
 
 /// The type that a declarator gives the name of a type.
@@ -316,8 +315,7 @@ fn shaped_name(
         copy_type(base)?,
         layers,
     )?;
-    let ty = named_type(world, &declarator.name, shape, results_fit)?;
-    Ok(ty)
+    named_type(world, &declarator.name, &shape, results_fit)
 }
 
 /// Declares the name of a type.
@@ -345,11 +343,9 @@ fn type_declarator(
     ensures { Walks (spec.typed_type base.now one.now world.old) result world.new }
 {
     let inside = declarator(alloc, world, one)?;
-    let ty = declare_type(alloc, world, base, &inside)?;
-    Ok(Declared {
-        declarator: inside.tree,
-        ty,
-    })
+    let ty = declare_type(alloc, world, base, inside.get())?;
+    let (declared, _) = inside.into_inner().into_declared(ty);
+    Ok(declared)
 }
 
 /// Declarators of types' names, in order.

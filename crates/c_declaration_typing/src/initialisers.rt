@@ -104,8 +104,8 @@ fn given_value(
         result world.new }
 {
     let x = expression(alloc, world, e, Place::Value)?;
-    leaf_rules(alloc, world, is_global, target, &x)?;
-    Ok(TypedInit::Expr(x))
+    leaf_rules(alloc, world, is_global, target, x.get())?;
+    Ok(TypedInit::Expr(x.into_inner()))
 }
 
 /// An initialiser that is an expression.
