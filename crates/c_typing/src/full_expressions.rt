@@ -21,10 +21,8 @@ use std::alloc::Global;
 fn full(alloc: Global, world: &mut World, e: &FullExpr) -> Result<TypedFullExpr, Failure>
     ensures { Walks (spec.full e.now world.old) result world.new }
 {
-    let x = expression(alloc, world, e.expr.get(), Place::Value)?;
-    Ok(TypedFullExpr {
-        expr: Boxed::new(alloc, x)?,
-    })
+    let expr = expression(alloc, world, e.expr.get(), Place::Value)?;
+    Ok(TypedFullExpr { expr })
 }
 
 /// An expression, if there is one.

@@ -1,6 +1,7 @@
 //! The walk of definitions of functions.
 
 ghost use Rattle.std.specs.Prelude.{◌≡◌, [], OnOk, IfOk};
+ghost use Rattle.std.specs.Option.{option_copied};
 ghost use Rattle.c_types.specs.Kinds.{function_of};
 ghost use Rattle.c_scope.specs.Walks.{Walks};
 ghost use Rattle.c_typing.specs.Functions as spec;
@@ -9,14 +10,14 @@ use crate::statements::block;
 use c_expr_typing::{LayeredDeclarator, declarator};
 use c_layers::{CheckedShape, Layer, Shape, checked_shape};
 use c_scope::{
-    Failure, Rule, World, all_named, bind_parameters, declare_function, found, mark_defined,
-    own_parameters, test,
+    Failure, Rule, World, all_named, bind_parameters, declare_function, mark_defined,
+    own_parameters,
 };
 use c_tree::{Block, Declarator};
-use c_typed::{Declared, Local, TypedBlock, TypedFn, TypedSpec};
+use c_typed::{Local, TypedBlock, TypedFn, TypedSpec};
 use c_types::{FnTy, Name, Ty, copy_type};
 use shared::Shared;
-use sqlite_items::Items;
+use sqlite_items::{Boxed, Items};
 use std::alloc::Global;
 
 /// Whether the list of parameters stands at the name itself, and each has a name.
@@ -32,8 +33,8 @@ fn is_definition(layers: &[Layer]) -> bool
 
 /// The type of a function, without its kind.
 #[tactic(auto, unfolding(c_types::specs::Kinds::function_of))]
-fn into_function(ty: Ty) -> Option<Shared<FnTy>>
-    ensures { result ≡ function_of ty }
+fn as_function(ty: &Ty) -> Option<&Shared<FnTy>>
+    ensures { option_copied result ≡ function_of ty.now }
 {
     match ty {
         Ty::Function(function) => Some(function),
@@ -47,19 +48,24 @@ fn defined_type(
     alloc: Global,
     world: &World,
     name: &Name,
-    shape: Shape,
+    shape: &Shape,
     fits: bool,
 ) -> Result<Shared<FnTy>, Failure>
-    ensures { Walks (spec.defined_type name.now shape fits world.now) result world.now }
+    ensures { Walks (spec.defined_type name.now shape.now fits world.now) result world.now }
 {
-    if !world.may_be_defined(alloc, name.bytes(), &shape)? {
+    if !world.may_be_defined(alloc, name.bytes(), shape)? {
         return Err(Failure::Broken(Rule::Redeclared));
     }
-    let ty = found(Rule::Unsized, shape.into_whole())?;
+    let Some(ty) = shape.whole() else {
+        return Err(Failure::Broken(Rule::Unsized));
+    };
     if !fits {
         return Err(Failure::Broken(Rule::Form));
     }
-    found(Rule::Form, into_function(ty))
+    let Some(function) = as_function(ty) else {
+        return Err(Failure::Broken(Rule::Form));
+    };
+    Ok(function.share()?)
 }
 
 /// The type that a definition's declarator gives its name.
@@ -79,8 +85,7 @@ fn shaped_function(
         layers,
     )?;
     let fits = results_fit && is_definition(layers);
-    let function = defined_type(alloc, world, &declarator.name, shape, fits)?;
-    Ok(function)
+    defined_type(alloc, world, &declarator.name, &shape, fits)
 }
 
 /// Declares a function, which is defined from here on.
@@ -160,20 +165,18 @@ fn function_parts(
 pub(crate) fn function(
     alloc: Global,
     world: &mut World,
-    base: (TypedSpec, Ty),
+    base: Boxed<(TypedSpec, Ty)>,
     outer: &Declarator,
     inside: &Block,
 ) -> Result<TypedFn, Failure>
     ensures { Walks (spec.typed_function base.0 base.1 outer.now inside.now world.old)
         result world.new }
 {
-    let (spec, base) = base;
     let layered = declarator(alloc, world, outer)?;
-    let (function, locals, block) = function_parts(alloc, world, &base, &layered, inside)?;
-    let declared = Declared {
-        declarator: layered.tree,
-        ty: Ty::Function(function),
-    };
+    let ty = &base.get().1;
+    let (function, locals, block) = function_parts(alloc, world, ty, layered.get(), inside)?;
+    let (spec, _) = base.into_inner();
+    let (declared, _) = layered.into_inner().into_declared(Ty::Function(function));
     Ok(TypedFn {
         spec,
         declared,

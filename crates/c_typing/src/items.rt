@@ -25,8 +25,9 @@ fn typedef_item(
 ) -> Result<TypedItem, Failure>
     ensures { Walks (spec.typedef_item base.now all.now world.old) result world.new }
 {
-    let (spec, base) = spec(alloc, world, base, true)?;
-    let declared = type_declarators(alloc, world, &base, all)?;
+    let base = spec(alloc, world, base, true)?;
+    let declared = type_declarators(alloc, world, &base.get().1, all)?;
+    let (spec, _) = base.into_inner();
     Ok(TypedItem::Typedef(spec, declared))
 }
 

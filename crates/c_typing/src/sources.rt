@@ -1,11 +1,13 @@
 //! Whole sources.
 
-ghost use Rattle.std.specs.Prelude.{◌≡◌, ◌<◌, ◌^◌, length};
+ghost use Rattle.std.specs.Prelude.{◌≡◌, ◌<◌, ◌^◌, List, length};
 ghost use Rattle.c_scope.specs.Numbers.{number_of};
 ghost use Rattle.c_typing.specs.Checks.{Checks};
 ghost use Rattle.c_typing.specs.declared.error.CheckRefusal.TheVariants as refusal;
 ghost use Rattle.c_typing.specs.Sources as spec;
 ghost use Rattle.c_typing.specs.Sources.{typed_source};
+ghost use Rattle.c_typing.specs.inner.Ends.{ended, with_items};
+ghost use Rattle.c_typed.specs.declared.unit.TypedItem.{TypedItem as Item};
 
 use crate::error::CheckRefusal;
 use crate::items::items;
@@ -32,15 +34,26 @@ pub fn check(alloc: Global, unit: &Unit) -> Result<Typed, CheckRefusal>
     finished(count, items, world)
 }
 
-/// What is asked behind the last item.
+/// What is refused behind the last item, whatever the items are.
+fn refused_at_end(count: u32, world: &World) -> Option<CheckRefusal>
+    ensures { (is : List Item) → let typed = with_items is world.now
+        in Checks (spec.finished count is world.now) (ended typed result) }
+{
+    if let Some(first) = undefined_use(world.functions.as_slice()) {
+        return Some(broken(first, Rule::Undefined));
+    }
+    if !is_main(world.functions.find_item(b"main".as_slice())) {
+        return Some(broken(count, Rule::NoMain));
+    }
+    None
+}
+
+/// The typed form, unless something is refused behind the last item.
 fn finished(count: u32, items: Items<TypedItem>, world: World) -> Result<Typed, CheckRefusal>
     ensures { Checks (spec.finished count items world) result }
 {
-    if let Some(first) = undefined_use(world.functions.as_slice()) {
-        return Err(broken(first, Rule::Undefined));
-    }
-    if !is_main(world.functions.find_item(b"main".as_slice())) {
-        return Err(broken(count, Rule::NoMain));
+    if let Some(refusal) = refused_at_end(count, &world) {
+        return Err(refusal);
     }
     let World {
         item: _,

@@ -99,10 +99,10 @@ fn if_alone(
         result world.new }
 {
     let condition = condition(alloc, world, test)?;
-    let then_branch = statement(alloc, world, returns, in_loop, then_branch)?;
+    let then_branch = boxed_statement(alloc, world, returns, in_loop, then_branch)?;
     Ok(TypedStmt::If {
         condition,
-        then_branch: Boxed::new(alloc, then_branch)?,
+        then_branch,
         else_branch: None,
     })
 }
@@ -213,9 +213,25 @@ fn for_statement(
         in Walks (spec.for_walked (of.for_loop inside.now) in_loop world.old) result world.new }
 {
     world.enter()?;
-    let inside = for_loop(alloc, world, returns, in_loop, inside)?;
+    let inside = boxed_loop(alloc, world, returns, in_loop, inside)?;
     world.leave()?;
-    Ok(TypedStmt::For(Boxed::new(alloc, inside)?))
+    Ok(TypedStmt::For(inside))
+}
+
+/// A `for` with its statement, by itself in memory.
+#[cycle(statement)]
+fn boxed_loop(
+    alloc: Global,
+    world: &mut World,
+    returns: &Ty,
+    in_loop: bool,
+    inside: &ForLoop,
+) -> Result<Boxed<TypedForLoop>, Failure>
+    ensures { Walks ((walked_statements returns.now).for_loop inside.now in_loop world.old)
+        result world.new }
+{
+    let made = for_loop(alloc, world, returns, in_loop, inside)?;
+    Ok(Boxed::new(alloc, made)?)
 }
 
 /// A `for` with its statement, in the scope that is there.

@@ -23,7 +23,7 @@ abbrev pub decreases-if_else : goal.decreases-if_else
 decreases-if_else l = 5 * max (size-Stmt l.then_branch.now) (size-Stmt l.other.now) + 3
 
 abbrev pub decreases-if_alone : goal.decreases-if_alone
-decreases-if_alone l = 5 * size-Stmt l.then_branch.now + 1
+decreases-if_alone l = 5 * size-Stmt l.then_branch.now + 2
 
 abbrev pub decreases-while_statement : goal.decreases-while_statement
 decreases-while_statement l = 5 * size-Stmt l.body.now + 2
@@ -32,7 +32,10 @@ abbrev pub decreases-do_statement : goal.decreases-do_statement
 decreases-do_statement l = 5 * size-Stmt l.body.now + 2
 
 abbrev pub decreases-for_statement : goal.decreases-for_statement
-decreases-for_statement l = 5 * size-ForLoop l.inside.now + 1
+decreases-for_statement l = 5 * size-ForLoop l.inside.now + 2
+
+abbrev pub decreases-boxed_loop : goal.decreases-boxed_loop
+decreases-boxed_loop l = 5 * size-ForLoop l.inside.now + 1
 
 abbrev pub decreases-for_loop : goal.decreases-for_loop
 decreases-for_loop l = 5 * size-ForLoop l.inside.now
