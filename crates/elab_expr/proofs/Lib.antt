@@ -1,10 +1,4 @@
-pub mod Nodes
-pub mod Operands
-pub mod ValueRows
-pub mod Patch
+pub mod LvalueRows
 pub mod Updates
-pub mod ArgumentLists
-pub mod Branches
-pub mod CallRows
 pub mod NamedRows
-pub mod PlacedRows
+pub mod StructRows

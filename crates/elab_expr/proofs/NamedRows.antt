@@ -1,14 +1,11 @@
--- Rows that go by what a name stands for, and those that add the number 1.
+-- Assignments by what a name stands for, and those that add the number 1.
 use Rattle.std.proofs.Common.{◌≡◌, ◌∙◌, ℕ, ap, sym, subst, Result, Ok}
-use Rattle.c_typed.specs.declared.entity.BuiltIn.{BuiltIn}
 use Rattle.c_typed.specs.declared.expression.TypedExpr.{TypedExpr}
-use Rattle.c_types.specs.declared.ty.FnTy.{FnTy}
 use Rattle.c_tree.specs.declared.operator.BinaryOperator.{BinaryOperator}
 use Rattle.elab_rows.specs.Addresses.{Lvalue, assigned, loaded, slot_assigned, slot_updated, updated}
-use Rattle.elab_rows.specs.Calls.{Listed, indirect_made, placed}
 use Rattle.elab_rows.specs.Made.{Code, Made}
 use Rattle.elab_rows.specs.Rows.{slot_value}
-use Rattle.elab_rows.specs.Values.{Part, assigned_by, old_value, one, operand, part, postfix_part, returns, updated_by, updated_part}
+use Rattle.elab_rows.specs.Values.{Part, assigned_by, old_value, one, operand, part, postfix_part, updated_by, updated_part}
 use Rattle.elab_rows.specs.declared.named.Named.{Named}
 use Rattle.elab_rows.specs.declared.named.Named.TheVariants as named
 use Rattle.elab_rows.specs.declared.scope.Scope.{Scope}
@@ -16,8 +13,8 @@ use Rattle.elab_emit.specs.Emits.{Outcome, Stops, code_of}
 use Rattle.elab_emit.specs.declared.emitter.Emitter.{Emitter}
 use Rattle.elab_emit.specs.declared.emitter.Trouble.{Trouble}
 use Rattle.elab_expr.specs.declared.assignments.Updated.{Updated}
-use Rattle.elab_expr.specs.inner.Lists.{UpdateOutcome, end_by}
-use Rattle.elab_expr.proofs.Nodes.{one_is, one_tree}
+use Rattle.elab_expr.specs.inner.Updates.{UpdateOutcome}
+use Rattle.elab_parts.proofs.Nodes.{one_is, one_tree}
 
 -- ---- names: m is what was found to be n
 
@@ -50,16 +47,6 @@ updated_other (named.BuiltIn b) m l old new is f r not_slot h = h
 updated_other (named.Global g) m l old new is f r not_slot h = h
 updated_other (named.Frame v) m l old new is f r not_slot h = h
 updated_other named.Other m l old new is f r not_slot h = h
-
-pub end_other : (n m : Named) (t : FnTy) (l : Listed) (x : Made) (old new : Emitter) (r : Result ℕ Trouble) → m ≡ n
-    → ((f : ℕ) → m ≡ named.Function f → ⊥) → ((b : BuiltIn) → m ≡ named.BuiltIn b → ⊥)
-    → Outcome old (indirect_made t (returns t) l (placed x)) r new → Outcome old (end_by n t l x) r new
-end_other (named.Function f) m t l x old new r is not_function not_given h = absurd (not_function f is)
-end_other (named.BuiltIn b) m t l x old new r is not_function not_given h = absurd (not_given b is)
-end_other (named.Slot s) m t l x old new r is not_function not_given h = h
-end_other (named.Global g) m t l x old new r is not_function not_given h = h
-end_other (named.Frame v) m t l x old new r is not_function not_given h = h
-end_other named.Other m t l x old new r is not_function not_given h = h
 
 -- ---- the number 1
 

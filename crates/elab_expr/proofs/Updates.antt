@@ -11,10 +11,10 @@ use Rattle.elab_rows.specs.Values.{Part, new_value}
 use Rattle.elab_rows.specs.declared.scope.Scope.{Scope}
 use Rattle.elab_emit.specs.declared.emitter.Emitter.{Emitter}
 use Rattle.elab_emit.specs.declared.emitter.Trouble.{Trouble}
-use Rattle.elab_expr.specs.inner.Behind.{BeginsWith}
-use Rattle.elab_expr.specs.inner.Lists.{UpdateOutcome}
-use Rattle.elab_expr.proofs.Operands.{behind_value, followed_over, loaded_over, stops_front, stops_value, then_made}
-use Rattle.elab_expr.proofs.ValueRows.{new_over}
+use Rattle.elab_parts.specs.inner.Behind.{BeginsWith}
+use Rattle.elab_expr.specs.inner.Updates.{UpdateOutcome}
+use Rattle.elab_parts.proofs.Operands.{behind_value, followed_over, loaded_over, stops_front, stops_value, then_made}
+use Rattle.elab_expr.proofs.LvalueRows.{new_over}
 
 pub restored_step : (root t : Ty) (p q : ℕ) (m : Made) (old mid new : Emitter) (v : ℕ) (r : Result ℕ Trouble)
     → Outcome old m (Ok v) mid → p ≡ q → Outcome mid (restored_made root t p (code_of mid (held v))) r new

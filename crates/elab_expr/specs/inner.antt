@@ -1,4 +1,1 @@
-pub mod Behind
-pub mod Lists
-pub mod Nests
-pub mod Nodes
+pub mod Updates

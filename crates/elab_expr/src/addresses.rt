@@ -9,18 +9,16 @@ ghost use Rattle.elab_rows.specs.Rows as rows;
 ghost use Rattle.elab_rows.specs.Units.{units as unit_count};
 ghost use Rattle.elab_rows.specs.Values as spec;
 ghost use Rattle.elab_rows.specs.Values.{part};
-ghost use Rattle.elab_expr.specs.inner.Nests.{Nests};
-ghost use Rattle.elab_expr.specs.inner.Nodes.{node};
+ghost use Rattle.elab_parts.specs.Nests.{Nests};
+ghost use Rattle.elab_parts.specs.inner.Nodes.{node};
 
-use crate::named::entity_name;
-use crate::parts::{arrow_offset, dot_offset, has_function_type, pointer_to};
 use crate::pass::Pass;
 use c_tree::UnaryOperator;
 use c_typed::{TypedExpr, TypedForm};
 use c_types::{Ty, is_function};
 use core_ir::Operator;
 use elab_emit::{Emitter, Trouble, add_units, member_at, name_address, unary, units, whole_value};
-use elab_rows::Scope;
+use elab_parts::{arrow_offset, dot_offset, entity_name, has_function_type, pointer_to};
 
 impl<'s, V, A> Pass<'s, V, A>
 where
@@ -29,9 +27,9 @@ where
 {
     /// A of an lvalue in memory.
     pub(crate) fn node_address(&self, out: &mut Emitter, expr: &TypedExpr) -> Result<u32, Trouble>
-        requires nests { Nests self.now.depth (V.pre self.now.values) (V.post self.now.values) (A.pre self.now.addresses) (A.post self.now.addresses) }
+        requires nests { Nests self.now.parts.depth (V.pre self.now.parts.values) (V.post self.now.parts.values) (A.pre self.now.parts.addresses) (A.post self.now.parts.addresses) }
         requires sound { IsSound out.old }
-        ensures made { Outcome out.old (code_of out.old ((part self.now.scope.now expr.now).lvalue.address)) result out.new }
+        ensures made { Outcome out.old (code_of out.old ((part self.now.parts.scope.now expr.now).lvalue.address)) result out.new }
         ensures sound { IsSound out.new }
     {
         self.form_address(out, expr)
@@ -39,9 +37,9 @@ where
 
     /// The same of a form.
     fn form_address(&self, out: &mut Emitter, expr: &TypedExpr) -> Result<u32, Trouble>
-        requires nests { Nests self.now.depth (V.pre self.now.values) (V.post self.now.values) (A.pre self.now.addresses) (A.post self.now.addresses) }
+        requires nests { Nests self.now.parts.depth (V.pre self.now.parts.values) (V.post self.now.parts.values) (A.pre self.now.parts.addresses) (A.post self.now.parts.addresses) }
         requires sound { IsSound out.old }
-        ensures made { Outcome out.old (code_of out.old (spec.form_lvalue self.now.scope.now (node self.now.scope.now expr.now) (out-TypedExpr expr.now).ty).address) result out.new }
+        ensures made { Outcome out.old (code_of out.old (spec.form_lvalue self.now.parts.scope.now (node self.now.parts.scope.now expr.now) (out-TypedExpr expr.now).ty).address) result out.new }
         ensures sound { IsSound out.new }
     {
         match &expr.form {
@@ -50,7 +48,7 @@ where
             TypedForm::Member(a, _, n) => self.dot_address(out, a.get(), *n),
             TypedForm::Arrow(a, _, n) => self.arrow_address(out, a.get(), *n),
             TypedForm::Identifier(name, entity) => {
-                name_address(out, entity_name(self.scope, name, *entity))
+                name_address(out, entity_name(self.parts.scope, name, *entity))
             }
             _ => Ok(0),
         }
@@ -63,13 +61,13 @@ where
         operator: UnaryOperator,
         a: &TypedExpr,
     ) -> Result<u32, Trouble>
-        requires nests { Nests self.now.depth (V.pre self.now.values) (V.post self.now.values) (A.pre self.now.addresses) (A.post self.now.addresses) }
+        requires nests { Nests self.now.parts.depth (V.pre self.now.parts.values) (V.post self.now.parts.values) (A.pre self.now.parts.addresses) (A.post self.now.parts.addresses) }
         requires sound { IsSound out.old }
-        ensures made { Outcome out.old (code_of out.old (spec.unary_lvalue operator (part self.now.scope.now a.now) Int).address) result out.new }
+        ensures made { Outcome out.old (code_of out.old (spec.unary_lvalue operator (part self.now.parts.scope.now a.now) Int).address) result out.new }
         ensures sound { IsSound out.new }
     {
         match operator {
-            UnaryOperator::Dereference => self.value(out, a),
+            UnaryOperator::Dereference => self.parts.value(out, a),
             _ => Ok(0),
         }
     }
@@ -82,38 +80,38 @@ where
         i: &TypedExpr,
         ty: &Ty,
     ) -> Result<u32, Trouble>
-        requires nests { Nests self.now.depth (V.pre self.now.values) (V.post self.now.values) (A.pre self.now.addresses) (A.post self.now.addresses) }
+        requires nests { Nests self.now.parts.depth (V.pre self.now.parts.values) (V.post self.now.parts.values) (A.pre self.now.parts.addresses) (A.post self.now.parts.addresses) }
         requires sound { IsSound out.old }
-        ensures made { Outcome out.old (code_of out.old (lvalues.element_address (unit_count self.now.scope.now.structs ty.now) (part self.now.scope.now a.now).value (spec.converted_part (part self.now.scope.now i.now) Int))) result out.new }
+        ensures made { Outcome out.old (code_of out.old (lvalues.element_address (unit_count self.now.parts.scope.now.structs ty.now) (part self.now.parts.scope.now a.now).value (spec.converted_part (part self.now.parts.scope.now i.now) Int))) result out.new }
         ensures sound { IsSound out.new }
     {
-        let s = units(self.scope, ty)?;
-        let p = self.value(out, a)?;
-        let i = self.converted(out, i, &Ty::Int)?;
+        let s = units(self.parts.scope, ty)?;
+        let p = self.parts.value(out, a)?;
+        let i = self.parts.converted(out, i, &Ty::Int)?;
         add_units(out, p, i, s)
     }
 
     /// A of `e.f`.
     fn dot_address(&self, out: &mut Emitter, a: &TypedExpr, n: u32) -> Result<u32, Trouble>
-        requires nests { Nests self.now.depth (V.pre self.now.values) (V.post self.now.values) (A.pre self.now.addresses) (A.post self.now.addresses) }
+        requires nests { Nests self.now.parts.depth (V.pre self.now.parts.values) (V.post self.now.parts.values) (A.pre self.now.parts.addresses) (A.post self.now.parts.addresses) }
         requires sound { IsSound out.old }
-        ensures made { Outcome out.old (code_of out.old (lvalues.member_address (spec.member_offset self.now.scope.now (part self.now.scope.now a.now).ty n) (part self.now.scope.now a.now).lvalue.address)) result out.new }
+        ensures made { Outcome out.old (code_of out.old (lvalues.member_address (spec.member_offset self.now.parts.scope.now (part self.now.parts.scope.now a.now).ty n) (part self.now.parts.scope.now a.now).lvalue.address)) result out.new }
         ensures sound { IsSound out.new }
     {
-        let k = dot_offset(self.scope, a, n)?;
-        let p = self.address(out, a)?;
+        let k = dot_offset(self.parts.scope, a, n)?;
+        let p = self.parts.address(out, a)?;
         member_at(out, p, k)
     }
 
     /// A of `e->f`.
     fn arrow_address(&self, out: &mut Emitter, a: &TypedExpr, n: u32) -> Result<u32, Trouble>
-        requires nests { Nests self.now.depth (V.pre self.now.values) (V.post self.now.values) (A.pre self.now.addresses) (A.post self.now.addresses) }
+        requires nests { Nests self.now.parts.depth (V.pre self.now.parts.values) (V.post self.now.parts.values) (A.pre self.now.parts.addresses) (A.post self.now.parts.addresses) }
         requires sound { IsSound out.old }
-        ensures made { Outcome out.old (code_of out.old (lvalues.member_address (spec.member_offset self.now.scope.now (spec.target (spec.value_type (part self.now.scope.now a.now))) n) (part self.now.scope.now a.now).value)) result out.new }
+        ensures made { Outcome out.old (code_of out.old (lvalues.member_address (spec.member_offset self.now.parts.scope.now (spec.target (spec.value_type (part self.now.parts.scope.now a.now))) n) (part self.now.parts.scope.now a.now).value)) result out.new }
         ensures sound { IsSound out.new }
     {
-        let k = arrow_offset(self.scope, a, n)?;
-        let p = self.value(out, a)?;
+        let k = arrow_offset(self.parts.scope, a, n)?;
+        let p = self.parts.value(out, a)?;
         member_at(out, p, k)
     }
 
@@ -125,9 +123,9 @@ where
         a: &TypedExpr,
         ty: &Ty,
     ) -> Result<u32, Trouble>
-        requires nests { Nests self.now.depth (V.pre self.now.values) (V.post self.now.values) (A.pre self.now.addresses) (A.post self.now.addresses) }
+        requires nests { Nests self.now.parts.depth (V.pre self.now.parts.values) (V.post self.now.parts.values) (A.pre self.now.parts.addresses) (A.post self.now.parts.addresses) }
         requires sound { IsSound out.old }
-        ensures made { Outcome out.old (code_of out.old (spec.unary_value operator (part self.now.scope.now a.now) ty.now)) result out.new }
+        ensures made { Outcome out.old (code_of out.old (spec.unary_value operator (part self.now.parts.scope.now a.now) ty.now)) result out.new }
         ensures sound { IsSound out.new }
     {
         match operator {
@@ -146,60 +144,60 @@ where
         operator: Operator,
         a: &TypedExpr,
     ) -> Result<u32, Trouble>
-        requires nests { Nests self.now.depth (V.pre self.now.values) (V.post self.now.values) (A.pre self.now.addresses) (A.post self.now.addresses) }
+        requires nests { Nests self.now.parts.depth (V.pre self.now.parts.values) (V.post self.now.parts.values) (A.pre self.now.parts.addresses) (A.post self.now.parts.addresses) }
         requires sound { IsSound out.old }
-        ensures made { Outcome out.old (code_of out.old (rows.unary_code operator (part self.now.scope.now a.now).value)) result out.new }
+        ensures made { Outcome out.old (code_of out.old (rows.unary_code operator (part self.now.parts.scope.now a.now).value)) result out.new }
         ensures sound { IsSound out.new }
     {
-        let a = self.value(out, a)?;
+        let a = self.parts.value(out, a)?;
         unary(out, operator, a)
     }
 
     /// `&e`.
     fn address_value(&self, out: &mut Emitter, a: &TypedExpr) -> Result<u32, Trouble>
-        requires nests { Nests self.now.depth (V.pre self.now.values) (V.post self.now.values) (A.pre self.now.addresses) (A.post self.now.addresses) }
+        requires nests { Nests self.now.parts.depth (V.pre self.now.parts.values) (V.post self.now.parts.values) (A.pre self.now.parts.addresses) (A.post self.now.parts.addresses) }
         requires sound { IsSound out.old }
-        ensures made { Outcome out.old (code_of out.old (spec.address_value (part self.now.scope.now a.now))) result out.new }
+        ensures made { Outcome out.old (code_of out.old (spec.address_value (part self.now.parts.scope.now a.now))) result out.new }
         ensures sound { IsSound out.new }
     {
-        if has_function_type(self.scope, a) {
-            return self.value(out, a);
+        if has_function_type(self.parts.scope, a) {
+            return self.parts.value(out, a);
         }
         self.pointer_value(out, a)
     }
 
     /// The same of an lvalue in memory.
     fn pointer_value(&self, out: &mut Emitter, a: &TypedExpr) -> Result<u32, Trouble>
-        requires nests { Nests self.now.depth (V.pre self.now.values) (V.post self.now.values) (A.pre self.now.addresses) (A.post self.now.addresses) }
+        requires nests { Nests self.now.parts.depth (V.pre self.now.parts.values) (V.post self.now.parts.values) (A.pre self.now.parts.addresses) (A.post self.now.parts.addresses) }
         requires sound { IsSound out.old }
-        ensures made { Outcome out.old (code_of out.old (lvalues.address_of (part self.now.scope.now a.now).lvalue)) result out.new }
+        ensures made { Outcome out.old (code_of out.old (lvalues.address_of (part self.now.parts.scope.now a.now).lvalue)) result out.new }
         ensures sound { IsSound out.new }
     {
-        let p = self.address(out, a)?;
-        pointer_to(out, self.scope, a, p)
+        let p = self.parts.address(out, a)?;
+        pointer_to(out, self.parts.scope, a, p)
     }
 
     /// `*e` of this type.
     fn pointed_value(&self, out: &mut Emitter, a: &TypedExpr, ty: &Ty) -> Result<u32, Trouble>
-        requires nests { Nests self.now.depth (V.pre self.now.values) (V.post self.now.values) (A.pre self.now.addresses) (A.post self.now.addresses) }
+        requires nests { Nests self.now.parts.depth (V.pre self.now.parts.values) (V.post self.now.parts.values) (A.pre self.now.parts.addresses) (A.post self.now.parts.addresses) }
         requires sound { IsSound out.old }
-        ensures made { Outcome out.old (code_of out.old (spec.pointed_value (part self.now.scope.now a.now) ty.now)) result out.new }
+        ensures made { Outcome out.old (code_of out.old (spec.pointed_value (part self.now.parts.scope.now a.now) ty.now)) result out.new }
         ensures sound { IsSound out.new }
     {
         if is_function(ty) {
-            return self.value(out, a);
+            return self.parts.value(out, a);
         }
         self.pointed_lvalue(out, a, ty)
     }
 
     /// The same where it is no function.
     fn pointed_lvalue(&self, out: &mut Emitter, a: &TypedExpr, ty: &Ty) -> Result<u32, Trouble>
-        requires nests { Nests self.now.depth (V.pre self.now.values) (V.post self.now.values) (A.pre self.now.addresses) (A.post self.now.addresses) }
+        requires nests { Nests self.now.parts.depth (V.pre self.now.parts.values) (V.post self.now.parts.values) (A.pre self.now.parts.addresses) (A.post self.now.parts.addresses) }
         requires sound { IsSound out.old }
-        ensures made { Outcome out.old (code_of out.old (lvalues.lvalue_value (spec.whole (part self.now.scope.now a.now).value ty.now))) result out.new }
+        ensures made { Outcome out.old (code_of out.old (lvalues.lvalue_value (spec.whole (part self.now.parts.scope.now a.now).value ty.now))) result out.new }
         ensures sound { IsSound out.new }
     {
-        let p = self.value(out, a)?;
+        let p = self.parts.value(out, a)?;
         whole_value(out, ty, p)
     }
 }

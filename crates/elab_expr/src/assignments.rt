@@ -9,20 +9,20 @@ ghost use Rattle.elab_rows.specs.Rows as rows;
 ghost use Rattle.elab_rows.specs.Units.{scalars};
 ghost use Rattle.elab_rows.specs.Values as spec;
 ghost use Rattle.elab_rows.specs.Values.{operand, part};
-ghost use Rattle.elab_expr.specs.inner.Lists.{UpdateOutcome};
-ghost use Rattle.elab_expr.specs.inner.Nests.{Nests};
+ghost use Rattle.elab_expr.specs.inner.Updates.{UpdateOutcome};
+ghost use Rattle.elab_parts.specs.Nests.{Nests};
 
-use crate::named::name;
-use crate::parts::{convert_back, copy_lvalue, has_struct_type, load_lvalue, store_lvalue};
 use crate::pass::Pass;
-use crate::types::one;
 use c_tree::{AssignOperator, BinaryOperator};
 use c_typed::TypedExpr;
 use elab_emit::{Emitter, Trouble, set_slot, slot};
-use elab_rows::{Named, Scope};
+use elab_parts::{
+    convert_back, copy_lvalue, has_struct_type, load_lvalue, name, one, store_lvalue,
+};
+use elab_rows::Named;
 
 /// A value and what it becomes.
-#[derive(Clone, Copy, Debug, PartialEq, Eq)]
+#[derive(Clone, Copy)]
 pub(crate) struct Updated {
     pub(crate) old: u32,
     pub(crate) new: u32,
@@ -41,9 +41,9 @@ where
         operator: AssignOperator,
         b: &TypedExpr,
     ) -> Result<u32, Trouble>
-        requires nests { Nests self.now.depth (V.pre self.now.values) (V.post self.now.values) (A.pre self.now.addresses) (A.post self.now.addresses) }
+        requires nests { Nests self.now.parts.depth (V.pre self.now.parts.values) (V.post self.now.parts.values) (A.pre self.now.parts.addresses) (A.post self.now.parts.addresses) }
         requires sound { IsSound out.old }
-        ensures made { Outcome out.old (code_of out.old (spec.assignment_by self.now.scope.now (binary_operator operator) (part self.now.scope.now a.now) (part self.now.scope.now b.now))) result out.new }
+        ensures made { Outcome out.old (code_of out.old (spec.assignment_by self.now.parts.scope.now (binary_operator operator) (part self.now.parts.scope.now a.now) (part self.now.parts.scope.now b.now))) result out.new }
         ensures sound { IsSound out.new }
     {
         match operator.binary_operator() {
@@ -54,12 +54,12 @@ where
 
     /// `e1 = e2`.
     fn plain_assign(&self, out: &mut Emitter, a: &TypedExpr, b: &TypedExpr) -> Result<u32, Trouble>
-        requires nests { Nests self.now.depth (V.pre self.now.values) (V.post self.now.values) (A.pre self.now.addresses) (A.post self.now.addresses) }
+        requires nests { Nests self.now.parts.depth (V.pre self.now.parts.values) (V.post self.now.parts.values) (A.pre self.now.parts.addresses) (A.post self.now.parts.addresses) }
         requires sound { IsSound out.old }
-        ensures made { Outcome out.old (code_of out.old (spec.plain_assigned self.now.scope.now (part self.now.scope.now a.now) (part self.now.scope.now b.now))) result out.new }
+        ensures made { Outcome out.old (code_of out.old (spec.plain_assigned self.now.parts.scope.now (part self.now.parts.scope.now a.now) (part self.now.parts.scope.now b.now))) result out.new }
         ensures sound { IsSound out.new }
     {
-        if has_struct_type(self.scope, a) {
+        if has_struct_type(self.parts.scope, a) {
             return self.struct_assign(out, a, b);
         }
         self.value_assign(out, a, b)
@@ -67,10 +67,10 @@ where
 
     /// The same of scalars.
     fn value_assign(&self, out: &mut Emitter, a: &TypedExpr, b: &TypedExpr) -> Result<u32, Trouble>
-        requires nests { Nests self.now.depth (V.pre self.now.values) (V.post self.now.values) (A.pre self.now.addresses) (A.post self.now.addresses) }
+        requires nests { Nests self.now.parts.depth (V.pre self.now.parts.values) (V.post self.now.parts.values) (A.pre self.now.parts.addresses) (A.post self.now.parts.addresses) }
         requires sound { IsSound out.old }
-        ensures made { let p = part self.now.scope.now a.now in Outcome out.old (code_of out.old
-            (spec.assigned_by p.name p.lvalue (spec.converted_part (part self.now.scope.now b.now) p.ty))) result out.new }
+        ensures made { let p = part self.now.parts.scope.now a.now in Outcome out.old (code_of out.old
+            (spec.assigned_by p.name p.lvalue (spec.converted_part (part self.now.parts.scope.now b.now) p.ty))) result out.new }
         ensures sound { IsSound out.new }
     {
         let x = self.converted_for(out, b, a)?;
@@ -78,24 +78,24 @@ where
     }
 
     /// A value, converted to the type of what it is assigned to.
-    #[tactic(auto, using(crate::proofs::Nodes::type_is))]
+    #[tactic(auto, using(elab_parts::proofs::Nodes::type_is))]
     fn converted_for(&self, out: &mut Emitter, b: &TypedExpr, a: &TypedExpr) -> Result<u32, Trouble>
-        requires nests { Nests self.now.depth (V.pre self.now.values) (V.post self.now.values) (A.pre self.now.addresses) (A.post self.now.addresses) }
+        requires nests { Nests self.now.parts.depth (V.pre self.now.parts.values) (V.post self.now.parts.values) (A.pre self.now.parts.addresses) (A.post self.now.parts.addresses) }
         requires sound { IsSound out.old }
-        ensures made { Outcome out.old (code_of out.old (spec.converted_part (part self.now.scope.now b.now) (part self.now.scope.now a.now).ty)) result out.new }
+        ensures made { Outcome out.old (code_of out.old (spec.converted_part (part self.now.parts.scope.now b.now) (part self.now.parts.scope.now a.now).ty)) result out.new }
         ensures sound { IsSound out.new }
     {
-        self.converted(out, b, &a.ty)
+        self.parts.converted(out, b, &a.ty)
     }
 
     /// An assignment of a register that has the value.
     fn scalar_assign(&self, out: &mut Emitter, a: &TypedExpr, x: u32) -> Result<u32, Trouble>
-        requires nests { Nests self.now.depth (V.pre self.now.values) (V.post self.now.values) (A.pre self.now.addresses) (A.post self.now.addresses) }
+        requires nests { Nests self.now.parts.depth (V.pre self.now.parts.values) (V.post self.now.parts.values) (A.pre self.now.parts.addresses) (A.post self.now.parts.addresses) }
         requires sound { IsSound out.old }
-        ensures made { Outcome out.old (code_of out.old (spec.assigned_by (part self.now.scope.now a.now).name (part self.now.scope.now a.now).lvalue (held x))) result out.new }
+        ensures made { Outcome out.old (code_of out.old (spec.assigned_by (part self.now.parts.scope.now a.now).name (part self.now.parts.scope.now a.now).lvalue (held x))) result out.new }
         ensures sound { IsSound out.new }
     {
-        match name(self.scope, a) {
+        match name(self.parts.scope, a) {
             Named::Slot(s) => set_slot(out, s, x),
             _ => self.memory_assign(out, a, x),
         }
@@ -103,25 +103,25 @@ where
 
     /// The same in memory.
     fn memory_assign(&self, out: &mut Emitter, a: &TypedExpr, x: u32) -> Result<u32, Trouble>
-        requires nests { Nests self.now.depth (V.pre self.now.values) (V.post self.now.values) (A.pre self.now.addresses) (A.post self.now.addresses) }
+        requires nests { Nests self.now.parts.depth (V.pre self.now.parts.values) (V.post self.now.parts.values) (A.pre self.now.parts.addresses) (A.post self.now.parts.addresses) }
         requires sound { IsSound out.old }
-        ensures made { Outcome out.old (code_of out.old (lvalues.assigned (part self.now.scope.now a.now).lvalue (held x))) result out.new }
+        ensures made { Outcome out.old (code_of out.old (lvalues.assigned (part self.now.parts.scope.now a.now).lvalue (held x))) result out.new }
         ensures sound { IsSound out.new }
     {
-        let p = self.address(out, a)?;
-        store_lvalue(out, self.scope, a, p, x)
+        let p = self.parts.address(out, a)?;
+        store_lvalue(out, self.parts.scope, a, p, x)
     }
 
     /// An assignment of structs.
     fn struct_assign(&self, out: &mut Emitter, a: &TypedExpr, b: &TypedExpr) -> Result<u32, Trouble>
-        requires nests { Nests self.now.depth (V.pre self.now.values) (V.post self.now.values) (A.pre self.now.addresses) (A.post self.now.addresses) }
+        requires nests { Nests self.now.parts.depth (V.pre self.now.parts.values) (V.post self.now.parts.values) (A.pre self.now.parts.addresses) (A.post self.now.parts.addresses) }
         requires sound { IsSound out.old }
-        ensures made { Outcome out.old (code_of out.old (lvalues.struct_assigned (scalars self.now.scope.now.structs (part self.now.scope.now a.now).ty) (part self.now.scope.now a.now).lvalue (part self.now.scope.now b.now).lvalue)) result out.new }
+        ensures made { Outcome out.old (code_of out.old (lvalues.struct_assigned (scalars self.now.parts.scope.now.structs (part self.now.parts.scope.now a.now).ty) (part self.now.parts.scope.now a.now).lvalue (part self.now.parts.scope.now b.now).lvalue)) result out.new }
         ensures sound { IsSound out.new }
     {
-        let p = self.address(out, b)?;
-        let q = self.address(out, a)?;
-        copy_lvalue(out, self.scope, a, q, b, p)
+        let p = self.parts.address(out, b)?;
+        let q = self.parts.address(out, a)?;
+        copy_lvalue(out, self.parts.scope, a, q, b, p)
     }
 
     /// `op=`, and `++`, `--` in front: the new value.
@@ -132,9 +132,9 @@ where
         a: &TypedExpr,
         y: &TypedExpr,
     ) -> Result<u32, Trouble>
-        requires nests { Nests self.now.depth (V.pre self.now.values) (V.post self.now.values) (A.pre self.now.addresses) (A.post self.now.addresses) }
+        requires nests { Nests self.now.parts.depth (V.pre self.now.parts.values) (V.post self.now.parts.values) (A.pre self.now.parts.addresses) (A.post self.now.parts.addresses) }
         requires sound { IsSound out.old }
-        ensures made { Outcome out.old (code_of out.old (spec.updated_part self.now.scope.now operator (part self.now.scope.now a.now) (operand (part self.now.scope.now y.now)))) result out.new }
+        ensures made { Outcome out.old (code_of out.old (spec.updated_part self.now.parts.scope.now operator (part self.now.parts.scope.now a.now) (operand (part self.now.parts.scope.now y.now)))) result out.new }
         ensures sound { IsSound out.new }
     {
         let values = self.updated(out, operator, a, y)?;
@@ -148,13 +148,12 @@ where
         operator: BinaryOperator,
         a: &TypedExpr,
     ) -> Result<u32, Trouble>
-        requires nests { Nests self.now.depth (V.pre self.now.values) (V.post self.now.values) (A.pre self.now.addresses) (A.post self.now.addresses) }
+        requires nests { Nests self.now.parts.depth (V.pre self.now.parts.values) (V.post self.now.parts.values) (A.pre self.now.parts.addresses) (A.post self.now.parts.addresses) }
         requires sound { IsSound out.old }
-        ensures made { Outcome out.old (code_of out.old (spec.updated_part self.now.scope.now operator (part self.now.scope.now a.now) (operand spec.one))) result out.new }
+        ensures made { Outcome out.old (code_of out.old (spec.updated_part self.now.parts.scope.now operator (part self.now.parts.scope.now a.now) (operand spec.one))) result out.new }
         ensures sound { IsSound out.new }
     {
-        let one = one();
-        self.updated_value(out, operator, a, &one)
+        self.updated_value(out, operator, a, one())
     }
 
     /// `++` and `--` behind: the old value.
@@ -164,13 +163,12 @@ where
         operator: BinaryOperator,
         a: &TypedExpr,
     ) -> Result<u32, Trouble>
-        requires nests { Nests self.now.depth (V.pre self.now.values) (V.post self.now.values) (A.pre self.now.addresses) (A.post self.now.addresses) }
+        requires nests { Nests self.now.parts.depth (V.pre self.now.parts.values) (V.post self.now.parts.values) (A.pre self.now.parts.addresses) (A.post self.now.parts.addresses) }
         requires sound { IsSound out.old }
-        ensures made { Outcome out.old (code_of out.old (spec.postfix_part self.now.scope.now operator (part self.now.scope.now a.now))) result out.new }
+        ensures made { Outcome out.old (code_of out.old (spec.postfix_part self.now.parts.scope.now operator (part self.now.parts.scope.now a.now))) result out.new }
         ensures sound { IsSound out.new }
     {
-        let one = one();
-        let values = self.updated(out, operator, a, &one)?;
+        let values = self.updated(out, operator, a, one())?;
         Ok(values.old)
     }
 
@@ -182,12 +180,12 @@ where
         a: &TypedExpr,
         y: &TypedExpr,
     ) -> Result<Updated, Trouble>
-        requires nests { Nests self.now.depth (V.pre self.now.values) (V.post self.now.values) (A.pre self.now.addresses) (A.post self.now.addresses) }
+        requires nests { Nests self.now.parts.depth (V.pre self.now.parts.values) (V.post self.now.parts.values) (A.pre self.now.parts.addresses) (A.post self.now.parts.addresses) }
         requires sound { IsSound out.old }
-        ensures made { UpdateOutcome out.old (code_of out.old (spec.updated_part self.now.scope.now operator (part self.now.scope.now a.now) (operand (part self.now.scope.now y.now)))) (code_of out.old (spec.old_value (part self.now.scope.now a.now).name (part self.now.scope.now a.now).lvalue)).result result out.new }
+        ensures made { UpdateOutcome out.old (code_of out.old (spec.updated_part self.now.parts.scope.now operator (part self.now.parts.scope.now a.now) (operand (part self.now.parts.scope.now y.now)))) (code_of out.old (spec.old_value (part self.now.parts.scope.now a.now).name (part self.now.parts.scope.now a.now).lvalue)).result result out.new }
         ensures sound { IsSound out.new }
     {
-        match name(self.scope, a) {
+        match name(self.parts.scope, a) {
             Named::Slot(s) => self.slot_updated(out, s, operator, a, y),
             _ => self.memory_updated(out, operator, a, y),
         }
@@ -202,9 +200,9 @@ where
         a: &TypedExpr,
         y: &TypedExpr,
     ) -> Result<Updated, Trouble>
-        requires nests { Nests self.now.depth (V.pre self.now.values) (V.post self.now.values) (A.pre self.now.addresses) (A.post self.now.addresses) }
+        requires nests { Nests self.now.parts.depth (V.pre self.now.parts.values) (V.post self.now.parts.values) (A.pre self.now.parts.addresses) (A.post self.now.parts.addresses) }
         requires sound { IsSound out.old }
-        ensures made { UpdateOutcome out.old (code_of out.old (lvalues.slot_updated s (spec.new_value self.now.scope.now operator (part self.now.scope.now a.now) (operand (part self.now.scope.now y.now))))) (code_of out.old (rows.slot_value s)).result result out.new }
+        ensures made { UpdateOutcome out.old (code_of out.old (lvalues.slot_updated s (spec.new_value self.now.parts.scope.now operator (part self.now.parts.scope.now a.now) (operand (part self.now.parts.scope.now y.now))))) (code_of out.old (rows.slot_value s)).result result out.new }
         ensures sound { IsSound out.new }
     {
         let old = slot(out, s)?;
@@ -221,15 +219,15 @@ where
         a: &TypedExpr,
         y: &TypedExpr,
     ) -> Result<Updated, Trouble>
-        requires nests { Nests self.now.depth (V.pre self.now.values) (V.post self.now.values) (A.pre self.now.addresses) (A.post self.now.addresses) }
+        requires nests { Nests self.now.parts.depth (V.pre self.now.parts.values) (V.post self.now.parts.values) (A.pre self.now.parts.addresses) (A.post self.now.parts.addresses) }
         requires sound { IsSound out.old }
-        ensures made { UpdateOutcome out.old (code_of out.old (lvalues.updated (part self.now.scope.now a.now).lvalue (spec.new_value self.now.scope.now operator (part self.now.scope.now a.now) (operand (part self.now.scope.now y.now))))) (code_of out.old (lvalues.loaded (part self.now.scope.now a.now).lvalue)).result result out.new }
+        ensures made { UpdateOutcome out.old (code_of out.old (lvalues.updated (part self.now.parts.scope.now a.now).lvalue (spec.new_value self.now.parts.scope.now operator (part self.now.parts.scope.now a.now) (operand (part self.now.parts.scope.now y.now))))) (code_of out.old (lvalues.loaded (part self.now.parts.scope.now a.now).lvalue)).result result out.new }
         ensures sound { IsSound out.new }
     {
-        let p = self.address(out, a)?;
-        let old = load_lvalue(out, self.scope, a, p)?;
+        let p = self.parts.address(out, a)?;
+        let old = load_lvalue(out, self.parts.scope, a, p)?;
         let given = self.new_value(out, operator, a, old, y)?;
-        let new = store_lvalue(out, self.scope, a, p, given)?;
+        let new = store_lvalue(out, self.parts.scope, a, p, given)?;
         Ok(Updated { old, new })
     }
 
@@ -242,12 +240,12 @@ where
         a: u32,
         y: &TypedExpr,
     ) -> Result<u32, Trouble>
-        requires nests { Nests self.now.depth (V.pre self.now.values) (V.post self.now.values) (A.pre self.now.addresses) (A.post self.now.addresses) }
+        requires nests { Nests self.now.parts.depth (V.pre self.now.parts.values) (V.post self.now.parts.values) (A.pre self.now.parts.addresses) (A.post self.now.parts.addresses) }
         requires sound { IsSound out.old }
-        ensures made { Outcome out.old (code_of out.old (spec.new_value self.now.scope.now operator (part self.now.scope.now x.now) (operand (part self.now.scope.now y.now)) (held a))) result out.new }
+        ensures made { Outcome out.old (code_of out.old (spec.new_value self.now.parts.scope.now operator (part self.now.parts.scope.now x.now) (operand (part self.now.parts.scope.now y.now)) (held a))) result out.new }
         ensures sound { IsSound out.new }
     {
-        let given = self.operated(out, operator, x, a, y)?;
-        convert_back(out, self.scope, operator, x, y, given)
+        let given = self.parts.operated(out, operator, x, a, y)?;
+        convert_back(out, self.parts.scope, operator, x, y, given)
     }
 }

@@ -3,15 +3,9 @@
 
 mod addresses;
 mod assignments;
-mod calls;
-mod named;
-mod operation;
-mod operators;
-mod parts;
 mod pass;
 mod trees;
-mod types;
 mod values;
 
-pub use types::root;
+pub use elab_parts::root;
 pub use values::{address, converted, value};

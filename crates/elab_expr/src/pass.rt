@@ -1,73 +1,12 @@
-//! What emits one level of a tree takes the functions that emit its parts, so that each row is proved by itself.
+//! What emits one level of a tree, over what emits its parts.
 
-ghost use Rattle.std.specs.Prelude.{◌≡◌, ◌-◌, ◌<◌};
-ghost use Rattle.elab_emit.specs.Emits.{IsSound, Outcome, code_of};
-ghost use Rattle.elab_rows.specs.Values as spec;
-ghost use Rattle.elab_rows.specs.Values.{part};
-ghost use Rattle.elab_expr.specs.inner.Nests.{Nests};
-
-use crate::parts::convert_value;
 use c_typed::TypedExpr;
-use c_types::Ty;
 use elab_emit::{Emitter, Trouble};
+use elab_parts::Parts;
 use elab_rows::Scope;
 
 /// What emits one level of a tree.
 #[derive(Clone, Copy)]
 pub(crate) struct Pass<'s, V, A> {
-    pub(crate) scope: &'s Scope,
-    /// How deep the parts of a tree may nest.
-    pub(crate) depth: u32,
-    /// Emits the value of a part.
-    pub(crate) values: V,
-    /// Emits the address of a part.
-    pub(crate) addresses: A,
-}
-
-impl<'s, V, A> Pass<'s, V, A>
-where
-    V: Fn(&mut Emitter, &Scope, u32, &TypedExpr) -> Result<u32, Trouble> + Copy,
-    A: Fn(&mut Emitter, &Scope, u32, &TypedExpr) -> Result<u32, Trouble> + Copy,
-{
-    /// The value of a part.
-    pub(crate) fn value(&self, out: &mut Emitter, expr: &TypedExpr) -> Result<u32, Trouble>
-        requires nests { Nests self.now.depth (V.pre self.now.values) (V.post self.now.values) (A.pre self.now.addresses) (A.post self.now.addresses) }
-        requires sound { IsSound out.old }
-        ensures made { Outcome out.old (code_of out.old (part self.now.scope.now expr.now).value) result out.new }
-        ensures sound { IsSound out.new }
-    {
-        if self.depth == 0 {
-            return Err(Trouble::Memory);
-        }
-        (self.values)(out, self.scope, self.depth - 1, expr)
-    }
-
-    /// A of a part.
-    pub(crate) fn address(&self, out: &mut Emitter, expr: &TypedExpr) -> Result<u32, Trouble>
-        requires nests { Nests self.now.depth (V.pre self.now.values) (V.post self.now.values) (A.pre self.now.addresses) (A.post self.now.addresses) }
-        requires sound { IsSound out.old }
-        ensures made { Outcome out.old (code_of out.old (part self.now.scope.now expr.now).lvalue.address) result out.new }
-        ensures sound { IsSound out.new }
-    {
-        if self.depth == 0 {
-            return Err(Trouble::Memory);
-        }
-        (self.addresses)(out, self.scope, self.depth - 1, expr)
-    }
-
-    /// The value of a part, converted to this type.
-    pub(crate) fn converted(
-        &self,
-        out: &mut Emitter,
-        expr: &TypedExpr,
-        to: &Ty,
-    ) -> Result<u32, Trouble>
-        requires nests { Nests self.now.depth (V.pre self.now.values) (V.post self.now.values) (A.pre self.now.addresses) (A.post self.now.addresses) }
-        requires sound { IsSound out.old }
-        ensures made { Outcome out.old (code_of out.old (spec.converted_part (part self.now.scope.now expr.now) to.now)) result out.new }
-        ensures sound { IsSound out.new }
-    {
-        let a = self.value(out, expr)?;
-        convert_value(out, self.scope, expr, a, to)
-    }
+    pub(crate) parts: Parts<'s, V, A>,
 }

@@ -6,17 +6,16 @@ ghost use Rattle.elab_rows.specs.Addresses as lvalues;
 ghost use Rattle.elab_emit.specs.Emits.{IsSound, Outcome, code_of};
 ghost use Rattle.elab_rows.specs.Values as spec;
 ghost use Rattle.elab_rows.specs.Values.{part};
-ghost use Rattle.elab_expr.specs.inner.Nests.{Nests};
-ghost use Rattle.elab_expr.specs.inner.Nodes.{node};
+ghost use Rattle.elab_parts.specs.Nests.{Nests};
+ghost use Rattle.elab_parts.specs.inner.Nodes.{node};
 
-use crate::named::name;
-use crate::parts::{size_of, value_of};
 use crate::pass::Pass;
 use c_tree::BinaryOperator;
 use c_typed::{Constant, TypedExpr, TypedForm};
 use c_types::{Ty, is_void};
 use elab_emit::{Emitter, Trouble, function, number, size, slot, string};
-use elab_rows::{Named, Scope};
+use elab_parts::{name, size_of, value_of};
+use elab_rows::Named;
 
 impl<'s, V, A> Pass<'s, V, A>
 where
@@ -25,9 +24,9 @@ where
 {
     /// The value of a tree.
     pub(crate) fn node_value(&self, out: &mut Emitter, expr: &TypedExpr) -> Result<u32, Trouble>
-        requires nests { Nests self.now.depth (V.pre self.now.values) (V.post self.now.values) (A.pre self.now.addresses) (A.post self.now.addresses) }
+        requires nests { Nests self.now.parts.depth (V.pre self.now.parts.values) (V.post self.now.parts.values) (A.pre self.now.parts.addresses) (A.post self.now.parts.addresses) }
         requires sound { IsSound out.old }
-        ensures made { Outcome out.old (code_of out.old ((part self.now.scope.now expr.now).value)) result out.new }
+        ensures made { Outcome out.old (code_of out.old ((part self.now.parts.scope.now expr.now).value)) result out.new }
         ensures sound { IsSound out.new }
     {
         self.folded_value(out, expr)
@@ -35,24 +34,24 @@ where
 
     /// The same: one `Const` of a constant where constants are folded.
     fn folded_value(&self, out: &mut Emitter, expr: &TypedExpr) -> Result<u32, Trouble>
-        requires nests { Nests self.now.depth (V.pre self.now.values) (V.post self.now.values) (A.pre self.now.addresses) (A.post self.now.addresses) }
+        requires nests { Nests self.now.parts.depth (V.pre self.now.parts.values) (V.post self.now.parts.values) (A.pre self.now.parts.addresses) (A.post self.now.parts.addresses) }
         requires sound { IsSound out.old }
-        ensures made { Outcome out.old (code_of out.old (spec.folded self.now.scope.now.folds (out-TypedExpr expr.now).constant
-            (spec.form_value self.now.scope.now (node self.now.scope.now expr.now) (out-TypedExpr expr.now).ty))) result out.new }
+        ensures made { Outcome out.old (code_of out.old (spec.folded self.now.parts.scope.now.folds (out-TypedExpr expr.now).constant
+            (spec.form_value self.now.parts.scope.now (node self.now.parts.scope.now expr.now) (out-TypedExpr expr.now).ty))) result out.new }
         ensures sound { IsSound out.new }
     {
-        match (self.scope.folds, expr.constant) {
+        match (self.parts.scope.folds, expr.constant) {
             (true, Constant::Value(v)) => number(out, v),
             _ => self.form_value(out, expr),
         }
     }
 
     /// The code of a form.
-    #[tactic(auto, using(crate::proofs::Nodes::name_is, crate::proofs::Nodes::lvalue_is, crate::proofs::Nodes::type_is))]
+    #[tactic(auto, using(elab_parts::proofs::Nodes::name_is, elab_parts::proofs::Nodes::lvalue_is, elab_parts::proofs::Nodes::type_is))]
     fn form_value(&self, out: &mut Emitter, expr: &TypedExpr) -> Result<u32, Trouble>
-        requires nests { Nests self.now.depth (V.pre self.now.values) (V.post self.now.values) (A.pre self.now.addresses) (A.post self.now.addresses) }
+        requires nests { Nests self.now.parts.depth (V.pre self.now.parts.values) (V.post self.now.parts.values) (A.pre self.now.parts.addresses) (A.post self.now.parts.addresses) }
         requires sound { IsSound out.old }
-        ensures made { Outcome out.old (code_of out.old (spec.form_value self.now.scope.now (node self.now.scope.now expr.now) (out-TypedExpr expr.now).ty)) result out.new }
+        ensures made { Outcome out.old (code_of out.old (spec.form_value self.now.parts.scope.now (node self.now.parts.scope.now expr.now) (out-TypedExpr expr.now).ty)) result out.new }
         ensures sound { IsSound out.new }
     {
         match &expr.form {
@@ -61,14 +60,14 @@ where
                 condition,
                 then_value,
                 else_value,
-            } => self.conditional(
+            } => self.parts.conditional(
                 out,
                 condition.get(),
                 then_value.get(),
                 else_value.get(),
                 &expr.ty,
             ),
-            TypedForm::Binary(a, operator, b) => self.operator_row(
+            TypedForm::Binary(a, operator, b) => self.parts.operator_row(
                 out,
                 *operator,
                 a.get(),
@@ -78,9 +77,9 @@ where
             TypedForm::PreIncrement(a) => self.counted(out, BinaryOperator::Add, a.get()),
             TypedForm::PreDecrement(a) => self.counted(out, BinaryOperator::Subtract, a.get()),
             TypedForm::Unary(operator, a) => self.unary_row(out, *operator, a.get(), &expr.ty),
-            TypedForm::SizeofExpr(a) => size_of(out, self.scope, a.get()),
-            TypedForm::SizeofType(word) => size(out, self.scope, &word.get().ty),
-            TypedForm::Call(callee, arguments) => self.call(
+            TypedForm::SizeofExpr(a) => size_of(out, self.parts.scope, a.get()),
+            TypedForm::SizeofType(word) => size(out, self.parts.scope, &word.get().ty),
+            TypedForm::Call(callee, arguments) => self.parts.call(
                 out,
                 callee.get(),
                 arguments.as_slice(),
@@ -89,30 +88,30 @@ where
             TypedForm::PostDecrement(a) => self.postfix(out, BinaryOperator::Subtract, a.get()),
             TypedForm::Identifier(_, _) => self.name_value(out, expr),
             TypedForm::Number(v) => number(out, *v),
-            TypedForm::Text(_, n) => string(out, self.scope, *n),
+            TypedForm::Text(_, n) => string(out, self.parts.scope, *n),
             _ => self.lvalue_value(out, expr),
         }
     }
 
     /// The value of an lvalue in memory.
     fn lvalue_value(&self, out: &mut Emitter, expr: &TypedExpr) -> Result<u32, Trouble>
-        requires nests { Nests self.now.depth (V.pre self.now.values) (V.post self.now.values) (A.pre self.now.addresses) (A.post self.now.addresses) }
+        requires nests { Nests self.now.parts.depth (V.pre self.now.parts.values) (V.post self.now.parts.values) (A.pre self.now.parts.addresses) (A.post self.now.parts.addresses) }
         requires sound { IsSound out.old }
-        ensures made { Outcome out.old (code_of out.old (lvalues.lvalue_value (part self.now.scope.now expr.now).lvalue)) result out.new }
+        ensures made { Outcome out.old (code_of out.old (lvalues.lvalue_value (part self.now.parts.scope.now expr.now).lvalue)) result out.new }
         ensures sound { IsSound out.new }
     {
         let p = self.node_address(out, expr)?;
-        value_of(out, self.scope, expr, p)
+        value_of(out, self.parts.scope, expr, p)
     }
 
     /// The value of a name.
     fn name_value(&self, out: &mut Emitter, expr: &TypedExpr) -> Result<u32, Trouble>
-        requires nests { Nests self.now.depth (V.pre self.now.values) (V.post self.now.values) (A.pre self.now.addresses) (A.post self.now.addresses) }
+        requires nests { Nests self.now.parts.depth (V.pre self.now.parts.values) (V.post self.now.parts.values) (A.pre self.now.parts.addresses) (A.post self.now.parts.addresses) }
         requires sound { IsSound out.old }
-        ensures made { Outcome out.old (code_of out.old (spec.name_value (part self.now.scope.now expr.now).name (out-TypedExpr expr.now).ty)) result out.new }
+        ensures made { Outcome out.old (code_of out.old (spec.name_value (part self.now.parts.scope.now expr.now).name (out-TypedExpr expr.now).ty)) result out.new }
         ensures sound { IsSound out.new }
     {
-        match name(self.scope, expr) {
+        match name(self.parts.scope, expr) {
             Named::Slot(s) => slot(out, s),
             Named::Function(f) => function(out, f),
             Named::Global(_) => self.lvalue_value(out, expr),
@@ -123,14 +122,14 @@ where
 
     /// A cast to this type.
     fn cast(&self, out: &mut Emitter, a: &TypedExpr, ty: &Ty) -> Result<u32, Trouble>
-        requires nests { Nests self.now.depth (V.pre self.now.values) (V.post self.now.values) (A.pre self.now.addresses) (A.post self.now.addresses) }
+        requires nests { Nests self.now.parts.depth (V.pre self.now.parts.values) (V.post self.now.parts.values) (A.pre self.now.parts.addresses) (A.post self.now.parts.addresses) }
         requires sound { IsSound out.old }
-        ensures made { Outcome out.old (code_of out.old (spec.cast_part (part self.now.scope.now a.now) ty.now)) result out.new }
+        ensures made { Outcome out.old (code_of out.old (spec.cast_part (part self.now.parts.scope.now a.now) ty.now)) result out.new }
         ensures sound { IsSound out.new }
     {
         if is_void(ty) {
-            return self.value(out, a);
+            return self.parts.value(out, a);
         }
-        self.converted(out, a, ty)
+        self.parts.converted(out, a, ty)
     }
 }

@@ -5,11 +5,11 @@ ghost use Rattle.elab_emit.specs.Emits.{IsSound, Outcome, code_of};
 ghost use Rattle.elab_rows.specs.Values as spec;
 ghost use Rattle.elab_rows.specs.Values.{part};
 
-use crate::parts::convert_value;
 use crate::pass::Pass;
 use c_typed::TypedExpr;
 use c_types::Ty;
 use elab_emit::{Emitter, Trouble};
+use elab_parts::{Parts, convert_value};
 use elab_rows::Scope;
 
 /// How deep a tree may nest. Those of sources nest a few hundred deep.
@@ -27,13 +27,13 @@ fn nested_value(
     ensures made { Outcome out.old (code_of out.old (part scope.now expr.now).value) result out.new }
     ensures sound { IsSound out.new }
 {
-    Pass {
+    let parts = Parts {
         scope,
         depth,
         values: nested_value,
         addresses: nested_address,
-    }
-    .node_value(out, expr)
+    };
+    Pass { parts }.node_value(out, expr)
 }
 
 /// A of a tree that nests at most so deep.
@@ -48,13 +48,13 @@ fn nested_address(
     ensures made { Outcome out.old (code_of out.old (part scope.now expr.now).lvalue.address) result out.new }
     ensures sound { IsSound out.new }
 {
-    Pass {
+    let parts = Parts {
         scope,
         depth,
         values: nested_value,
         addresses: nested_address,
-    }
-    .node_address(out, expr)
+    };
+    Pass { parts }.node_address(out, expr)
 }
 
 /// The code of a value, and the register that it has. An expression without a value gives any register.
@@ -89,7 +89,7 @@ pub fn address(out: &mut Emitter, scope: &Scope, expr: &TypedExpr) -> Result<u32
 /// # Errors
 ///
 /// As of `value`.
-#[tactic(auto, using(crate::proofs::ValueRows::converted_row, crate::proofs::ValueRows::converted_stop))]
+#[tactic(auto, using(elab_parts::proofs::ValueRows::converted_row, elab_parts::proofs::ValueRows::converted_stop))]
 pub fn converted(
     out: &mut Emitter,
     scope: &Scope,

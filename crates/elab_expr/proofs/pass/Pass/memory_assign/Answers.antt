@@ -1,12 +1,12 @@
 use Rattle.std.proofs.lemmas.Result.{err_from_is_err_and}
 use Rattle.elab_rows.specs.Values.{part}
-use Rattle.elab_expr.proofs.ValueRows.{stored_row, stored_stop}
+use Rattle.elab_expr.proofs.LvalueRows.{stored_row, stored_stop}
 use Rattle.elab_expr.proofs.pass.Pass.memory_assign.Goals as goal
 
 pub returns-clause-made : goal.returns-clause-made
-returns-clause-made g c = stored_row ((part c.args.self.now.scope.now c.args.a.now).lvalue) c.args.x c.args.out.now _ _ _ _ c.in_ok-p.ensures.made c.store_lvalue.ensures.made
+returns-clause-made g c = stored_row ((part c.args.self.now.parts.scope.now c.args.a.now).lvalue) c.args.x c.args.out.now _ _ _ _ c.in_ok-p.ensures.made c.store_lvalue.ensures.made
 
 pub returns-in_err-p-clause-made : goal.returns-in_err-p-clause-made
 returns-in_err-p-clause-made g c =
     let p = err_from_is_err_and c.from_residual.result c.from_residual.ensures.1 in
-    rw (p.1, p.2) (stored_stop ((part c.args.self.now.scope.now c.args.a.now).lvalue) c.args.x c.args.out.now _ c.in_err-p.ensures.made)
+    rw (p.1, p.2) (stored_stop ((part c.args.self.now.parts.scope.now c.args.a.now).lvalue) c.args.x c.args.out.now _ c.in_err-p.ensures.made)
