@@ -67,23 +67,18 @@ where
                 else_value.get(),
                 &expr.ty,
             ),
-            TypedForm::Binary(a, operator, b) => self.parts.operator_row(
-                out,
-                *operator,
-                a.get(),
-                b.get(),
-            ),
+            TypedForm::Binary(a, operator, b) => self
+                .parts
+                .operator_row(out, *operator, a.get(), b.get()),
             TypedForm::Cast(_, a) => self.cast(out, a.get(), &expr.ty),
             TypedForm::PreIncrement(a) => self.counted(out, BinaryOperator::Add, a.get()),
             TypedForm::PreDecrement(a) => self.counted(out, BinaryOperator::Subtract, a.get()),
             TypedForm::Unary(operator, a) => self.unary_row(out, *operator, a.get(), &expr.ty),
             TypedForm::SizeofExpr(a) => size_of(out, self.parts.scope, a.get()),
             TypedForm::SizeofType(word) => size(out, self.parts.scope, &word.get().ty),
-            TypedForm::Call(callee, arguments) => self.parts.call(
-                out,
-                callee.get(),
-                arguments.as_slice(),
-            ),
+            TypedForm::Call(callee, arguments) => self
+                .parts
+                .call(out, callee.get(), arguments.as_slice()),
             TypedForm::PostIncrement(a) => self.postfix(out, BinaryOperator::Add, a.get()),
             TypedForm::PostDecrement(a) => self.postfix(out, BinaryOperator::Subtract, a.get()),
             TypedForm::Identifier(_, _) => self.name_value(out, expr),

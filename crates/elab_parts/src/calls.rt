@@ -9,8 +9,8 @@ ghost use Rattle.elab_emit.specs.Held.{listed};
 ghost use Rattle.elab_parts.specs.inner.Lists.{ArgumentsOutcome, call_end, list_of};
 ghost use Rattle.elab_parts.specs.Nests.{Nests};
 
-use crate::named::name;
 use crate::held::callee_type;
+use crate::named::name;
 use crate::nested::Parts;
 use c_typed::TypedExpr;
 use c_types::{FnTy, Ty, is_void};

@@ -53,12 +53,7 @@ pub fn convert_value(
 
 /// The value of an lvalue at this address.
 #[tactic(auto, using(crate::proofs::Nodes::lvalue_type))]
-pub fn value_of(
-    out: &mut Emitter,
-    scope: &Scope,
-    expr: &TypedExpr,
-    p: u32,
-) -> Result<u32, Trouble>
+pub fn value_of(out: &mut Emitter, scope: &Scope, expr: &TypedExpr, p: u32) -> Result<u32, Trouble>
     requires { IsSound out.old }
     ensures made { let l = (part scope.now expr.now).lvalue in
         Outcome out.old (code_of out.old (lvalues.lvalue_value (from_root l.ty l.root (held p)))) result out.new }
@@ -87,12 +82,7 @@ pub fn pointer_to(
 
 /// The value of an lvalue at this address.
 #[tactic(auto, using(crate::proofs::Nodes::lvalue_type))]
-pub fn load_lvalue(
-    out: &mut Emitter,
-    scope: &Scope,
-    a: &TypedExpr,
-    p: u32,
-) -> Result<u32, Trouble>
+pub fn load_lvalue(out: &mut Emitter, scope: &Scope, a: &TypedExpr, p: u32) -> Result<u32, Trouble>
     requires { IsSound out.old }
     ensures made { Outcome out.old (code_of out.old (lvalues.loaded (record (part scope.now a.now).lvalue { address = held p }))) result out.new }
     ensures sound { IsSound out.new }

@@ -57,12 +57,7 @@ where
     }
 
     /// The value of a part, converted to this type.
-    pub fn converted(
-        &self,
-        out: &mut Emitter,
-        expr: &TypedExpr,
-        to: &Ty,
-    ) -> Result<u32, Trouble>
+    pub fn converted(&self, out: &mut Emitter, expr: &TypedExpr, to: &Ty) -> Result<u32, Trouble>
         requires nests { Nests self.now.depth (V.pre self.now.values) (V.post self.now.values) (A.pre self.now.addresses) (A.post self.now.addresses) }
         requires sound { IsSound out.old }
         ensures made { Outcome out.old (code_of out.old (spec.converted_part (part self.now.scope.now expr.now) to.now)) result out.new }

@@ -9,9 +9,9 @@ ghost use Rattle.elab_rows.specs.Values as spec;
 ghost use Rattle.elab_rows.specs.Values.{operand, part};
 ghost use Rattle.elab_parts.specs.Nests.{Nests};
 
-use crate::operation::operation_of;
 use crate::held::convert_value;
 use crate::nested::Parts;
+use crate::operation::operation_of;
 use c_tree::BinaryOperator;
 use c_typed::TypedExpr;
 use c_types::Ty;
