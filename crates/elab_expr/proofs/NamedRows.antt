@@ -50,22 +50,19 @@ updated_other named.Other m l old new is f r not_slot h = h
 
 -- ---- the number 1
 
-module _ (scope : Scope) (o : BinaryOperator) (x : Part) (e : TypedExpr) (is : e ≡ one_tree) (old : Emitter) where
-  one_part : part scope e ≡ one
-  one_part = ap (part scope) is ∙ one_is scope
+pub counted_row : (scope : Scope) (o : BinaryOperator) (x : Part) (e : TypedExpr) → e ≡ one_tree → (old new : Emitter) (r : Result Updated Trouble)
+    → UpdateOutcome old (code_of old (updated_part scope o x (operand (part scope e)))) (code_of old (old_value x.name x.lvalue)).result r new
+    → UpdateOutcome old (code_of old (updated_part scope o x (operand one))) (code_of old (old_value x.name x.lvalue)).result r new
+counted_row scope o x e is old new r h =
+    subst (λ p. UpdateOutcome old (code_of old (updated_part scope o x (operand p))) (code_of old (old_value x.name x.lvalue)).result r new)
+    (ap (part scope) is ∙ one_is scope) h
 
-  pub counted_row : (r : Result ℕ Trouble) (new : Emitter) → Outcome old (code_of old (updated_part scope o x (operand (part scope e)))) r new
-      → Outcome old (code_of old (updated_part scope o x (operand one))) r new
-  counted_row r new h = subst (λ p. Outcome old (code_of old (updated_part scope o x (operand p))) r new) one_part h
-
+module _ (scope : Scope) (o : BinaryOperator) (x : Part) (old : Emitter) where
   pub postfix_row : (v : Updated) (new : Emitter)
-      → UpdateOutcome old (code_of old (updated_part scope o x (operand (part scope e)))) (code_of old (old_value x.name x.lvalue)).result (Ok v) new
+      → UpdateOutcome old (code_of old (updated_part scope o x (operand one))) (code_of old (old_value x.name x.lvalue)).result (Ok v) new
       → Outcome old (code_of old (postfix_part scope o x)) (Ok v.old) new
-  postfix_row v new h =
-      let k : UpdateOutcome old (code_of old (updated_part scope o x (operand one))) (code_of old (old_value x.name x.lvalue)).result (Ok v) new =
-      subst (λ p. UpdateOutcome old (code_of old (updated_part scope o x (operand p))) (code_of old (old_value x.name x.lvalue)).result (Ok v) new) one_part h in
-      (k.0, k.2)
+  postfix_row v new h = (h.0, h.2)
 
-  pub postfix_stop : (t : Trouble) → Stops old (code_of old (updated_part scope o x (operand (part scope e)))).code t
+  pub postfix_stop : (t : Trouble) → Stops old (code_of old (updated_part scope o x (operand one))).code t
       → Stops old (code_of old (postfix_part scope o x)).code t
-  postfix_stop t h = subst (λ p. Stops old (code_of old (updated_part scope o x (operand p))).code t) one_part h
+  postfix_stop t h = h

@@ -142,7 +142,7 @@ where
     }
 
     /// `++` and `--` in front.
-    pub(crate) fn counted(
+    pub(crate) fn prefix(
         &self,
         out: &mut Emitter,
         operator: BinaryOperator,
@@ -153,7 +153,8 @@ where
         ensures made { Outcome out.old (code_of out.old (spec.updated_part self.now.parts.scope.now operator (part self.now.parts.scope.now a.now) (operand spec.one))) result out.new }
         ensures sound { IsSound out.new }
     {
-        self.updated_value(out, operator, a, one())
+        let values = self.counted(out, operator, a)?;
+        Ok(values.new)
     }
 
     /// `++` and `--` behind: the old value.
@@ -168,8 +169,24 @@ where
         ensures made { Outcome out.old (code_of out.old (spec.postfix_part self.now.parts.scope.now operator (part self.now.parts.scope.now a.now))) result out.new }
         ensures sound { IsSound out.new }
     {
-        let values = self.updated(out, operator, a, one())?;
+        let values = self.counted(out, operator, a)?;
         Ok(values.old)
+    }
+
+    /// The old and the new value of what `++` or `--` changes.
+    fn counted(
+        &self,
+        out: &mut Emitter,
+        operator: BinaryOperator,
+        a: &TypedExpr,
+    ) -> Result<Updated, Trouble>
+        requires nests { Nests self.now.parts.depth (V.pre self.now.parts.values) (V.post self.now.parts.values) (A.pre self.now.parts.addresses) (A.post self.now.parts.addresses) }
+        requires sound { IsSound out.old }
+        ensures made { UpdateOutcome out.old (code_of out.old (spec.updated_part self.now.parts.scope.now operator (part self.now.parts.scope.now a.now) (operand spec.one))) (code_of out.old (spec.old_value (part self.now.parts.scope.now a.now).name (part self.now.parts.scope.now a.now).lvalue)).result result out.new }
+        ensures sound { IsSound out.new }
+    {
+        let one = one();
+        self.updated(out, operator, a, &one)
     }
 
     /// The old and the new value of what an operator changes.

@@ -71,8 +71,8 @@ where
                 .parts
                 .operator_row(out, *operator, a.get(), b.get()),
             TypedForm::Cast(_, a) => self.cast(out, a.get(), &expr.ty),
-            TypedForm::PreIncrement(a) => self.counted(out, BinaryOperator::Add, a.get()),
-            TypedForm::PreDecrement(a) => self.counted(out, BinaryOperator::Subtract, a.get()),
+            TypedForm::PreIncrement(a) => self.prefix(out, BinaryOperator::Add, a.get()),
+            TypedForm::PreDecrement(a) => self.prefix(out, BinaryOperator::Subtract, a.get()),
             TypedForm::Unary(operator, a) => self.unary_row(out, *operator, a.get(), &expr.ty),
             TypedForm::SizeofExpr(a) => size_of(out, self.parts.scope, a.get()),
             TypedForm::SizeofType(word) => size(out, self.parts.scope, &word.get().ty),

@@ -1,6 +1,7 @@
 //! Types that rows ask for.
 
 ghost use Rattle.std.specs.Prelude.{◌≡◌, IfOk, pos};
+ghost use Rattle.std.specs.Mem.{manually_drop_value};
 ghost use Rattle.c_operators.specs.Operators.{typed};
 ghost use Rattle.c_typed.specs.declared.entity.Constant.TheVariants as constant;
 ghost use Rattle.c_typed.specs.declared.expression.TypedForm.TheVariants as form;
@@ -18,6 +19,7 @@ use c_types::{Ty, copy_type};
 use elab_emit::target;
 use elab_rows::Scope;
 use std::alloc::{AllocError, Global};
+use std::mem::ManuallyDrop;
 
 /// The type to which both operands are converted.
 #[tactic(auto, using(crate::proofs::Nodes::operand_is), unfolding(elab_rows::specs::Rows::operand_type, c_operators::specs::Operators::compared_as))]
@@ -54,19 +56,17 @@ pub(crate) fn operated_type(
     }
 }
 
-/// The number 1, which no function owns, since what lets a tree go has a case for each of its forms.
-static ONE: TypedExpr = TypedExpr {
-    form: TypedForm::Number(1),
-    ty: Ty::Int,
-    constant: Constant::Value(1),
-};
-
-/// The number 1.
+/// The number 1. It is never let go, as it holds nothing to let go: whatever owns a tree has a case for each of
+/// its forms wherever it may end.
 #[tactic(auto, unfolding(c_operators::specs::Operators::typed))]
-pub fn one() -> &'static TypedExpr
-    ensures { result.now ≡ typed (form.Number (pos 1)) ty.Int (constant.Value (pos 1)) }
+pub fn one() -> ManuallyDrop<TypedExpr>
+    ensures { manually_drop_value result ≡ typed (form.Number (pos 1)) ty.Int (constant.Value (pos 1)) }
 {
-    &ONE
+    ManuallyDrop::new(TypedExpr {
+        form: TypedForm::Number(1),
+        ty: Ty::Int,
+        constant: Constant::Value(1),
+    })
 }
 
 /// What the pointer that an expression's value is points to.
