@@ -19,6 +19,7 @@ use c_types::{Ty, is_function};
 use core_ir::Operator;
 use elab_emit::{Emitter, Trouble, add_units, member_at, name_address, unary, units, whole_value};
 use elab_parts::{arrow_offset, dot_offset, entity_name, has_function_type, pointer_to};
+use elab_rows::Scope;
 
 impl<'s, V, A> Pass<'s, V, A>
 where

@@ -19,7 +19,7 @@ use elab_emit::{Emitter, Trouble, set_slot, slot};
 use elab_parts::{
     convert_back, copy_lvalue, has_struct_type, load_lvalue, name, one, store_lvalue,
 };
-use elab_rows::Named;
+use elab_rows::{Named, Scope};
 
 /// A value and what it becomes.
 #[derive(Clone, Copy)]

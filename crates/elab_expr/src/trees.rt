@@ -15,7 +15,7 @@ use c_typed::{Constant, TypedExpr, TypedForm};
 use c_types::{Ty, is_void};
 use elab_emit::{Emitter, Trouble, function, number, size, slot, string};
 use elab_parts::{name, size_of, value_of};
-use elab_rows::Named;
+use elab_rows::{Named, Scope};
 
 impl<'s, V, A> Pass<'s, V, A>
 where
