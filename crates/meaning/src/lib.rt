@@ -3,12 +3,14 @@
 
 mod action;
 mod event;
+mod events;
 mod note;
 mod record;
 mod value;
 
 pub use action::{Action, Reply, fits};
-pub use event::{Event, Events, Inputs};
+pub use event::{Event, Inputs};
+pub use events::{Block, Events};
 pub use note::{Note, Place};
 pub use record::{Record, Records};
 pub use value::{Check, Entry, Stop, Value};
