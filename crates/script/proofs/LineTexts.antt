@@ -1,11 +1,10 @@
 -- A line and its text determine each other.
-use Rattle.std.proofs.Common.{◌≡◌, ◌≢◌, ℕ, ℤ, ◌^◌, ◌<◌, ◌≤◌, List, [], ◌∷◌, ◌++◌, refl, sym, ap, ◌∙◌, arith, Option, None, Some, IfSome, codes}
+use Rattle.std.proofs.Common.{◌≡◌, ℕ, ℤ, List, [], ◌∷◌, refl, ap, ◌∙◌, arith, Option, None, Some, IfSome, codes}
 use Rattle.std.specs.Prelude.{decimal}
 use Rattle.std.specs.Fmt.{signed_decimal}
 use Rattle.std.specs.Option.{option_map}
 use Rattle.std.proofs.lemmas.List.{append-nil}
-use Rattle.fields.specs.Fields.{fields_of, spaced}
-use Rattle.fields.specs.Reading.{Fields}
+use Rattle.fields.specs.Fields.{fields_of}
 use Rattle.fields.specs.Theorems.{FieldLaws}
 use Rattle.script.specs.declared.grammar.Line.{Line as Read}
 use Rattle.script.specs.Script.{Line, Empty, Comment, Turns, Rounds, Write, Input, IsLine, line_text, greatest_turns}

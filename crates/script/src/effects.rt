@@ -1,40 +1,45 @@
 //! What the lines of a script give.
-ghost use Rattle.std.specs.Prelude.{◌≡◌, ◌<◌, ◌^◌, ◌++◌, replicate, IsTrue, ◌↔◌, OnOk};
+ghost use Rattle.std.specs.Prelude.{◌≡◌, ◌<◌, ◌^◌, ◌++◌, replicate, IsTrue, ◌↔◌, IfOk, OnOk};
 ghost use Rattle.script.specs.Script.{IsLine, IsInputLine, line_events, line_inputs, line_turns, round, rounds_of};
 ghost use Rattle.script.specs.inner.Reading.{line_of};
 
 use super::grammar::Line;
 use meaning::{Event, Events, Inputs};
-use std::alloc::AllocError;
+use sqlite_items::Items;
+use std::alloc::{AllocError, Global};
 
 /// Adds so many turns of a thread at the end.
 fn push_turns(events: &mut Events, thread: u8, turns: u32) -> Result<(), AllocError>
     ensures { OnOk result (events.new ≡ events.old ++ replicate turns (Event.Turn thread)) }
 {
-    for _ in 0..turns {
-        events.push(Event::Turn(thread))?;
+    if turns == 1 {
+        return events.push(Event::Turn(thread));
     }
-    Ok(())
+    events.push_repeated(&[Event::Turn(thread)], turns as usize)
 }
 
-/// Adds one turn of each of so many threads at the end.
-fn push_round(events: &mut Events, threads: u8) -> Result<(), AllocError>
-    ensures { OnOk result (events.new ≡ events.old ++ round threads) }
+/// One turn of each of so many threads.
+fn round(alloc: Global, threads: u8) -> Result<Items<Event>, AllocError>
+    ensures { IfOk result (λ turns. turns ≡ round threads) }
 {
+    let mut turns = Items::new(alloc);
     for thread in 0..threads {
-        events.push(Event::Turn(thread))?;
+        turns.push(Event::Turn(thread))?;
     }
-    Ok(())
+    Ok(turns)
 }
 
 /// Adds so many rounds of so many threads at the end.
-fn push_rounds(events: &mut Events, threads: u8, rounds: u32) -> Result<(), AllocError>
+fn push_rounds(
+    alloc: Global,
+    events: &mut Events,
+    threads: u8,
+    rounds: u32,
+) -> Result<(), AllocError>
     ensures { OnOk result (events.new ≡ events.old ++ rounds_of threads rounds) }
 {
-    for _ in 0..rounds {
-        push_round(events, threads)?;
-    }
-    Ok(())
+    let round = round(alloc, threads)?;
+    events.push_repeated(round.as_slice(), rounds as usize)
 }
 
 impl<'a> Line<'a> {
@@ -72,12 +77,12 @@ impl<'a> Line<'a> {
     }
 
     /// Adds the events at the end.
-    pub(super) fn push_events(self, events: &mut Events) -> Result<(), AllocError>
+    pub(super) fn push_events(self, alloc: Global, events: &mut Events) -> Result<(), AllocError>
         ensures { OnOk result (events.new ≡ events.old ++ line_events (line_of self.entry)) }
     {
         match self {
             Line::Turns(thread, turns) => push_turns(events, thread, turns),
-            Line::Rounds(threads, rounds) => push_rounds(events, threads, rounds),
+            Line::Rounds(threads, rounds) => push_rounds(alloc, events, threads, rounds),
             Line::Write(address, word) => events.push(Event::Corrupt(address, word)),
             Line::Empty | Line::Comment(_) | Line::Input(_) => Ok(()),
         }

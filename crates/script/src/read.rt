@@ -34,7 +34,7 @@ struct Lines {
 
 impl Lines {
     /// Adds a line.
-    fn add(&mut self, line: Line<'_>) -> Result<(), AllocError>
+    fn add(&mut self, alloc: Global, line: Line<'_>) -> Result<(), AllocError>
         requires { self.old.turns + line_turns (line_of line) < 2 ^ 64 }
         ensures turns { OnOk result (self.new.turns ≡ self.old.turns + line_turns (line_of line.entry)) }
         ensures inputs { OnOk result (self.new.inputs ≡ self.old.inputs ++ line_inputs (line_of line.entry)) }
@@ -44,7 +44,7 @@ impl Lines {
         self.turns += line.turns();
         line.push_input(&mut self.inputs)?;
         if self.turns <= u64::from(GREATEST_TURNS) {
-            line.push_events(&mut self.events)?;
+            line.push_events(alloc, &mut self.events)?;
         }
         Ok(())
     }
@@ -95,7 +95,7 @@ fn read_lines(alloc: Global, bytes: &[u8]) -> Result<Lines, ScriptRefusal>
         let Some(line) = read_line(content_of(line)) else {
             return Err(ScriptRefusal::Line { n: number });
         };
-        lines.add(line)?;
+        lines.add(alloc, line)?;
         rest = after;
     }
     Ok(lines)
