@@ -9,7 +9,7 @@ ghost use Rattle.thread_engine.specs.State.{ThreadState};
 use super::memories::Memories;
 use super::turn::{cut_seat, turn_seat};
 use machine::Code;
-use meaning::{Event, Events, Inputs, Record};
+use meaning::{Block, Event, Events, Inputs, Record};
 use plain_seq::Plain;
 use region_seq::Region;
 use std::alloc::{AllocError, Global};
@@ -47,7 +47,9 @@ impl System {
     ghost use Rattle.machine.specs.ValidCode.{ValidCode};
     ghost use Rattle.machine.specs.Run.{opening, happens, steps_from, state_after};
     ghost use Rattle.machine.specs.Trace.{traced};
+    ghost use Rattle.meaning.specs.Blocks.{events_of};
     ghost use Rattle.system.specs.State.{state_of, setting_of, threads_of, IsSystem, IsSystemOf};
+    ghost use Rattle.system.specs.inner.Runs.{IsBehind, IsKept, IsWithin};
 
     /// The system that begins a run of code, with these inputs, at most this many threads, 1 to 16, and this many slots,
     /// 1,026 to 1,048,576.
@@ -178,7 +180,50 @@ impl System {
         ensures threads { threads_of self.new ≡ threads_of self.old }
         ensures inputs { trace.new.inputs ≡ trace.old.inputs }
     {
-        for event in events.as_slice() {
+        for block in events.blocks() {
+            self.run_block(code, block, trace)?;
+        }
+        Ok(())
+    }
+
+    /// The events of a block, one after another, as often as they come.
+    ///
+    /// # Errors
+    ///
+    /// `AllocError`. The trace then has the records of the events before it.
+    fn run_block(&mut self, code: &Code, block: &Block, trace: &mut Trace) -> Result<(), AllocError>
+        requires valid { ValidCode code.now }
+        requires same { IsSystemOf code.now self.old }
+        ensures ok { OnOk result (IsBehind code.now (events_of block.now) self.old self.new trace.old.records trace.new.records) }
+        ensures err { OnErr result (IsWithin code.now (events_of block.now) self.old trace.old.records trace.new.records) }
+        ensures kept { IsKept code.now self.old self.new }
+        ensures inputs { trace.new.inputs ≡ trace.old.inputs }
+    {
+        for _ in 0..block.times {
+            self.run_events(code, block.events.as_slice(), trace)?;
+        }
+        Ok(())
+    }
+
+    /// These events, one after another.
+    ///
+    /// # Errors
+    ///
+    /// `AllocError`. The trace then has the records of the events before it.
+    fn run_events(
+        &mut self,
+        code: &Code,
+        events: &[Event],
+        trace: &mut Trace,
+    ) -> Result<(), AllocError>
+        requires valid { ValidCode code.now }
+        requires same { IsSystemOf code.now self.old }
+        ensures ok { OnOk result (IsBehind code.now events.now self.old self.new trace.old.records trace.new.records) }
+        ensures err { OnErr result (IsWithin code.now events.now self.old trace.old.records trace.new.records) }
+        ensures kept { IsKept code.now self.old self.new }
+        ensures inputs { trace.new.inputs ≡ trace.old.inputs }
+    {
+        for event in events {
             self.step(code, *event, trace)?;
         }
         Ok(())
