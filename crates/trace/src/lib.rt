@@ -2,6 +2,8 @@
 #![tactic(auto)]
 
 mod field;
+mod hash;
+mod kept;
 mod record;
 mod records;
 mod text;

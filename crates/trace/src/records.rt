@@ -1,24 +1,28 @@
 //! Traces.
-ghost use Rattle.std.specs.Prelude.{◌≡◌, ◌+◌, ◌-◌, ◌≤◌, ◌<◌, [], ◌∷◌, ◌++◌, length, slice_get, slice_set, Option, MatchOption, IsOk, IfOk, OnOk, OnErr};
+ghost use Rattle.std.specs.Prelude.{◌≡◌, ◌+◌, ◌-◌, ◌≤◌, ◌<◌, [], ◌∷◌, true, false, length, slice_get, Option, MatchOption, IsOk, IfOk, OnOk, OnErr};
 ghost use Rattle.meaning.specs.Records.{added, joined, is_violated, names_check};
 ghost use Rattle.meaning.specs.declared.record.Record.{Record};
 ghost use Rattle.trace.specs.Records.{IsRecord};
 
+use super::kept::Records;
 use meaning::{Inputs, Note, Record, Stop};
 use std::alloc::{AllocError, Global};
 use std::marker::Model;
+use std::mem::replace;
 
-/// The inputs of a run, its records in order, and room for further ones.
+/// The inputs of a run, its records in order, and room for further ones. The last record is kept by itself, since
+/// steps behind steps are added to it in place.
 #[derive(Drop)]
 pub struct Trace {
     pub(crate) alloc: Global,
     pub(crate) inputs: Inputs,
-    pub(crate) records: Vec<Record>,
+    pub(crate) earlier: Records,
+    pub(crate) last: Option<Record>,
 }
 
 impl Model for Trace {
-    ghost use Rattle.std.specs.Prelude.{◌-◌, vec_capacity, vec_len};
     ghost use Rattle.trace.specs.Records.{TraceView, trace_code};
+    ghost use Rattle.std.specs.Prelude.{◌≡◌, [], ◌++◌, option_to_list, Option, None};
 
     ghost Value = { TraceView };
 
@@ -26,9 +30,11 @@ impl Model for Trace {
 
     ghost view = { λ t. record {
       inputs = t.inputs;
-      records = t.records.items;
-      spare = vec_capacity t.records - vec_len t.records;
+      records = (t.earlier).records ++ option_to_list t.last;
+      spare = (t.earlier).spare;
     } };
+
+    ghost invariant = { λ t. t.last ≡ None → (t.earlier).records ≡ [] };
 }
 
 impl Trace {
@@ -40,7 +46,8 @@ impl Trace {
         Trace {
             alloc,
             inputs: Inputs::new(alloc),
-            records: Vec::new(alloc),
+            earlier: Records::new(alloc),
+            last: None,
         }
     }
 
@@ -69,7 +76,7 @@ impl Trace {
         ensures records { (self.new).records ≡ (self.old).records }
         ensures spare { OnOk result (n ≤ (self.new).spare) }
     {
-        self.records.reserve(n)
+        self.earlier.reserve(n)
     }
 
     /// Adds a record: steps behind steps of the same thread add their number to those, and every other record goes
@@ -81,13 +88,13 @@ impl Trace {
         ensures records { (self.new).records ≡ added (self.old).records item }
         ensures spare { (self.old).spare ≤ (self.new).spare + 1 }
     {
-        match joined_last(self.records.as_slice(), item) {
-            Some(both) => {
-                let last = self.records.len() - 1;
-                self.records[last] = both;
-            }
-            None => {
-                let _pushed = self.records.push(item);
+        match &mut self.last {
+            None => self.last = Some(item),
+            Some(last) => {
+                if !joins(last, &item) {
+                    let before = replace(last, item);
+                    self.earlier.push(before);
+                }
             }
         }
     }
@@ -96,61 +103,71 @@ impl Trace {
     pub fn len(&self) -> usize
         ensures { result ≡ length (self.now).records }
     {
-        self.records.len()
+        match self.last {
+            None => self.earlier.len(),
+            Some(_) => self.earlier.len() + 1,
+        }
     }
 
     /// The record of this number, from 0, and None where there are no more than so many.
     pub fn get(&self, i: usize) -> Option<&Record>
         ensures { MatchOption result (length (self.now).records ≤ i) (λ r. slice_get (self.now).records i ≡ Option.Some r.now) }
     {
-        self.records.get(i)
+        if i < self.earlier.len() {
+            Some(self.earlier.at(i))
+        } else if i == self.earlier.len() {
+            self.last.as_ref()
+        } else {
+            None
+        }
     }
 
     /// Whether some stop names a check.
     pub fn violated(&self) -> bool
         ensures { result ≡ is_violated (self.now).records }
     {
-        self.records.iter().any(|entry| names_check(entry))
+        some_names_check(&self.earlier) || self.last.is_some_and(|last| names_check(&last))
     }
 }
 
-/// The last record and this one as one record, where they are steps of the same thread.
-fn joined_last(records: &[Record], entry: Record) -> Option<Record>
-    ensures { MatchOption result
-        (added records.now entry ≡ records.now ++ entry ∷ [])
-        (λ both. (0 < length records.now)
-        × (added records.now entry ≡ slice_set records.now (length records.now - 1) both)) }
+/// Adds steps to a last record that is steps of the same thread: whether they are. The new record tells first, since
+/// most that aren't steps are known by it.
+fn joins(last: &mut Record, item: &Record) -> bool
+    ensures joined { result ≡ true → joined last.old item.now ≡ last.new ∷ [] }
+    ensures behind { result ≡ false → joined last.old item.now ≡ last.old ∷ item.now ∷ [] }
+    ensures same { result ≡ false → last.new ≡ last.old }
 {
-    let last = records.last()?;
-    joined(last, entry)
-}
-
-/// Two records as one, where they are steps of the same thread. The new one tells first, since most that aren't steps
-/// are known by it.
-fn joined(last: &Record, entry: Record) -> Option<Record>
-    ensures { MatchOption result
-        (joined last.now entry ≡ last.now ∷ entry ∷ [])
-        (λ both. joined last.now entry ≡ both ∷ []) }
-{
-    match entry {
-        Record::Steps { t, n } => joined_steps(last, t, n),
-        _ => None,
+    match item {
+        Record::Steps { t, n } => adds_steps(last, *t, *n),
+        _ => false,
     }
 }
 
-/// A record and so many steps of a thread as one record, where it is steps of that thread.
-fn joined_steps(last: &Record, t: u8, n: u64) -> Option<Record>
-    ensures { MatchOption result
-        (joined last.now (Record.Steps t n) ≡ last.now ∷ Record.Steps t n ∷ [])
-        (λ both. joined last.now (Record.Steps t n) ≡ both ∷ []) }
+/// The same for so many steps of a thread.
+fn adds_steps(last: &mut Record, t: u8, n: u64) -> bool
+    ensures joined { result ≡ true → joined last.old (Record.Steps t n) ≡ last.new ∷ [] }
+    ensures behind { result ≡ false → joined last.old (Record.Steps t n) ≡ last.old ∷ Record.Steps t n ∷ [] }
+    ensures same { result ≡ false → last.new ≡ last.old }
 {
     match last {
-        Record::Steps { t: u, n: m } if *u == t => Some(Record::Steps {
-            t,
-            n: m.saturating_add(n),
-        }),
-        _ => None,
+        Record::Steps { t: u, n: m } if *u == t => {
+            *m = m.saturating_add(n);
+            true
+        }
+        _ => false,
     }
+}
+
+/// Whether some stop among the records names a check.
+fn some_names_check(records: &Records) -> bool
+    ensures { result ≡ is_violated (records.now).records }
+{
+    for i in 0..records.len() {
+        if names_check(records.at(i)) {
+            return true;
+        }
+    }
+    false
 }
 
 fn names_check(entry: &Record) -> bool

@@ -1,8 +1,9 @@
 //! The text of a trace.
-ghost use Rattle.std.specs.Prelude.{◌≡◌, ◌++◌, IfOk, OnOk};
+ghost use Rattle.std.specs.Prelude.{◌≡◌, ◌++◌, ◌∷◌, [], IfOk, OnOk};
 ghost use Rattle.std.specs.List.{flat_map};
 ghost use Rattle.trace.specs.Text.{input_text, is_brief, record_text, run_text, trace_text};
 
+use super::kept::Records;
 use super::record::{push_input, push_record};
 use super::records::Trace;
 use meaning::{Action, Note, Record};
@@ -22,14 +23,22 @@ fn is_brief(entry: &Record) -> bool
     }
 }
 
-/// Appends the lines of records, of all or of those that the brief text shows.
-fn push_records(text: &mut Vec<u8>, records: &[Record], full: bool) -> Result<(), AllocError>
-    ensures { OnOk result (text.new.items ≡ text.old.items ++ trace_text full records.now) }
+/// Appends a record's line, where the text shows it: in full each, in brief some.
+fn push_shown(text: &mut Vec<u8>, entry: &Record, full: bool) -> Result<(), AllocError>
+    ensures { OnOk result (text.new.items ≡ text.old.items ++ trace_text full (entry.now ∷ [])) }
 {
-    for entry in records {
-        if full || is_brief(entry) {
-            push_record(text, *entry)?;
-        }
+    if full || is_brief(entry) {
+        push_record(text, *entry)?;
+    }
+    Ok(())
+}
+
+/// Appends the lines of records, of all or of those that the brief text shows.
+fn push_records(text: &mut Vec<u8>, records: &Records, full: bool) -> Result<(), AllocError>
+    ensures { OnOk result (text.new.items ≡ text.old.items ++ trace_text full (records.now).records) }
+{
+    for i in 0..records.len() {
+        push_shown(text, records.at(i), full)?;
     }
     Ok(())
 }
@@ -57,7 +66,10 @@ impl Trace {
         if full {
             push_inputs(&mut text, self.inputs.as_slice())?;
         }
-        push_records(&mut text, self.records.as_slice(), full)?;
+        push_records(&mut text, &self.earlier, full)?;
+        if let Some(last) = &self.last {
+            push_shown(&mut text, last, full)?;
+        }
         Ok(text)
     }
 }

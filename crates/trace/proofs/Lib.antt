@@ -1,0 +1,4 @@
+pub mod Added
+pub mod SameRecords
+pub mod KeptRecords
+pub mod Shown
