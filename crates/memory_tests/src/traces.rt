@@ -67,3 +67,56 @@ fn a_trace_is_violated_by_a_failed_check(rt: HostRuntime) -> Result<(), Fail> {
     assert_eq!(rt; trace.violated(), true);
     Ok(())
 }
+
+#[test]
+fn steps_that_grow_leave_equal_ones(rt: HostRuntime) -> Result<(), Fail> {
+    let mut trace = Trace::new(rt.alloc());
+    trace.reserve(5)?;
+    trace.push(Record::Steps { t: 0, n: 1 });
+    trace.push(Record::Wrote { a: 8, v: 1 });
+    trace.push(Record::Steps { t: 0, n: 1 });
+    trace.push(Record::Steps { t: 0, n: 1 });
+    trace.push(Record::Wrote { a: 8, v: 1 });
+    assert_eq!(rt; trace.len(), 4);
+    let text = trace.text(true)?;
+    assert!(rt; text.as_slice() == b"0 steps 1\nw 8 1\n0 steps 2\nw 8 1\n".as_slice());
+    Ok(())
+}
+
+/// Record `i` of a long run: every second one is one of ten, and the others are 300 different ones, again and again.
+fn of_long_run(i: u32) -> Record {
+    if i % 2 == 0 {
+        return Record::Wrote {
+            a: i % 600,
+            v: -1,
+        };
+    }
+    let note = Note::Call {
+        depth: 1,
+        f: i % 20,
+        from: 3,
+    };
+    Record::Noted { t: 0, note }
+}
+
+#[test]
+fn a_long_run_has_its_records_in_order(rt: HostRuntime) -> Result<(), Fail> {
+    let mut trace = Trace::new(rt.alloc());
+    let mut text = Vec::new(rt.alloc());
+    for i in 0..2_000_u32 {
+        let mut alone = Trace::new(rt.alloc());
+        alone.reserve(1)?;
+        alone.push(of_long_run(i));
+        text.extend_from_slice(alone.text(true)?.as_slice())?;
+        trace.reserve(1)?;
+        trace.push(of_long_run(i));
+    }
+    assert_eq!(rt; trace.len(), 2_000);
+    for i in 0..2_000_u32 {
+        assert_eq!(rt; trace.get(i as usize).copied(), Some(of_long_run(i)), "record {i}");
+    }
+    assert_eq!(rt; trace.get(2_000).copied(), None);
+    assert!(rt; trace.text(true)?.as_slice() == text.as_slice());
+    assert!(rt; trace.text(false)?.as_slice() == text.as_slice());
+    Ok(())
+}

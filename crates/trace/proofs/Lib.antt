@@ -1,4 +1,4 @@
 pub mod Added
 pub mod SameRecords
-pub mod KeptRecords
+pub mod Places
 pub mod Shown

@@ -1,6 +1,7 @@
 -- Traces: the inputs of a run and its records, as they may stand one behind another.
-use Rattle.std.specs.Prelude.{ℕ, ℤ, ◌<◌, ◌≤◌, List, refl}
+use Rattle.std.specs.Prelude.{◌≡◌, ◌≢◌, ℕ, ℤ, ◌^◌, ◌<◌, ◌≤◌, Bool, false, List, ◌∷◌, ◌++◌, refl}
 use Rattle.std.specs.Coded.{Coded, code_by, coded_list, coded_ℕ, coded_ℤ, coded×}
+use Rattle.std.specs.List.{All}
 use Rattle.meaning.specs.Action.{Fits}
 use Rattle.meaning.specs.contracts.record.Record as record_contract
 use Rattle.meaning.specs.declared.action.Action.{Action}

@@ -1,4 +1,4 @@
-//! Hashes of records, by which a record that came lately is looked for.
+//! Hashes of records, by which one that came lately is looked for.
 ghost use Rattle.std.specs.Prelude.{◌<◌};
 
 use meaning::{Action, Entry, Note, Place, Record, Reply};
@@ -6,11 +6,13 @@ use meaning::{Action, Entry, Note, Place, Record, Reply};
 /// How many hashes there are.
 pub(crate) const HASHES: usize = 128;
 
-/// Three numbers as one.
+/// Three numbers as one, in which small ones have bits of their own.
 fn mixed(kind: u64, number: u64, value: u64) -> u64 {
     number ^ value.rotate_left(24) ^ kind.rotate_left(56)
 }
 
+/// The key of an entry, as below that of an action, a reply, a place, a note and a record: a number that few others of
+/// the same run have.
 fn entry_key(entry: Option<Entry>) -> u64 {
     match entry {
         None => 0,
@@ -85,7 +87,7 @@ fn record_key(record: &Record) -> u64 {
     }
 }
 
-/// A record's hash: the highest bits of its key, onto which the product moves all others.
+/// The hash of a record: the highest bits of a product, which hang on all bits of its key.
 pub(crate) fn hash_of(record: &Record) -> usize
     ensures { result < HASHES }
 {

@@ -1,4 +1,4 @@
-//! Records of which each is kept once for the times that it comes, since most runs repeat themselves.
+//! Records of which each is kept once for the times that it comes lately, since most runs repeat themselves.
 ghost use Rattle.std.specs.Prelude.{◌≡◌, ◌+◌, ◌^◌, ◌≤◌, ◌<◌, [], ◌∷◌, ◌++◌, length, slice_get, Option, IfSome, OnOk};
 
 use super::hash::{HASHES, hash_of};
@@ -8,16 +8,16 @@ use std::marker::Model;
 
 /// Records in order, and room for further ones.
 #[derive(Drop)]
-pub(crate) struct Records {
-    /// The records that differ, and some again that didn't come for long.
+pub(crate) struct KeptRecords {
+    /// The records that differ, and again those that came when another with their hash had been kept.
     kept: Vec<Record>,
-    /// For each record in order, where it is kept.
+    /// For each record in order, the place where it is kept.
     places: Vec<usize>,
-    /// For each hash, where a record with it was kept last.
+    /// For each hash, the place where a record with it was last kept.
     recent: [usize; HASHES],
 }
 
-impl Model for Records {
+impl Model for KeptRecords {
     ghost use Rattle.std.specs.Prelude.{◌-◌, min, vec_capacity, vec_len};
     ghost use Rattle.trace.specs.inner.Kept.{RecordsView, records_code, records_at, ArePlaces};
 
@@ -33,12 +33,12 @@ impl Model for Records {
     ghost invariant = { λ r. ArePlaces r.kept.items r.places.items };
 }
 
-impl Records {
+impl KeptRecords {
     /// No records.
-    pub(crate) fn new(alloc: Global) -> Records
+    pub(crate) fn new(alloc: Global) -> KeptRecords
         ensures { (result).records ≡ [] }
     {
-        Records {
+        KeptRecords {
             kept: Vec::new(alloc),
             places: Vec::new(alloc),
             recent: [0; HASHES],
@@ -54,18 +54,18 @@ impl Records {
         self.places.reserve(n)
     }
 
-    /// Adds a record, which is kept unless the last one with its hash equals it.
-    pub(crate) fn push(&mut self, item: Record)
+    /// Adds a record, which is kept unless it equals the one with its hash that was last kept.
+    pub(crate) fn push(&mut self, item: &Record)
         requires { 1 ≤ (self.old).spare }
-        ensures records { (self.new).records ≡ (self.old).records ++ item ∷ [] }
+        ensures records { (self.new).records ≡ (self.old).records ++ item.now ∷ [] }
         ensures spare { (self.old).spare ≤ (self.new).spare + 1 }
     {
-        let hash = hash_of(&item);
-        match equal_at(self.kept.as_slice(), self.recent[hash], &item) {
+        let hash = hash_of(item);
+        match equal_at(self.kept.as_slice(), self.recent[hash], item) {
             Some(place) => self.places.push_reserved(place),
             None => {
                 let place = self.kept.len();
-                self.kept.push_reserved(item);
+                self.kept.push_reserved(*item);
                 self.recent[hash] = place;
                 self.places.push_reserved(place);
             }
@@ -89,7 +89,7 @@ impl Records {
     }
 }
 
-/// The place, where the record that is kept there equals this one.
+/// This place, if the record that is kept there equals this one.
 fn equal_at(kept: &[Record], place: usize, item: &Record) -> Option<usize>
     ensures { IfSome result (λ p. slice_get kept.now p ≡ Option.Some item.now) }
 {

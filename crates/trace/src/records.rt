@@ -4,11 +4,10 @@ ghost use Rattle.meaning.specs.Records.{added, joined, is_violated, names_check}
 ghost use Rattle.meaning.specs.declared.record.Record.{Record};
 ghost use Rattle.trace.specs.Records.{IsRecord};
 
-use super::kept::Records;
+use super::kept::KeptRecords;
 use meaning::{Inputs, Note, Record, Stop};
 use std::alloc::{AllocError, Global};
 use std::marker::Model;
-use std::mem::replace;
 
 /// The inputs of a run, its records in order, and room for further ones. The last record is kept by itself, since
 /// steps behind steps are added to it in place.
@@ -16,13 +15,13 @@ use std::mem::replace;
 pub struct Trace {
     pub(crate) alloc: Global,
     pub(crate) inputs: Inputs,
-    pub(crate) earlier: Records,
+    pub(crate) earlier: KeptRecords,
     pub(crate) last: Option<Record>,
 }
 
 impl Model for Trace {
+    ghost use Rattle.std.specs.Prelude.{◌≡◌, [], ◌++◌, None, option_to_list};
     ghost use Rattle.trace.specs.Records.{TraceView, trace_code};
-    ghost use Rattle.std.specs.Prelude.{◌≡◌, [], ◌++◌, option_to_list, Option, None};
 
     ghost Value = { TraceView };
 
@@ -46,7 +45,7 @@ impl Trace {
         Trace {
             alloc,
             inputs: Inputs::new(alloc),
-            earlier: Records::new(alloc),
+            earlier: KeptRecords::new(alloc),
             last: None,
         }
     }
@@ -92,8 +91,8 @@ impl Trace {
             None => self.last = Some(item),
             Some(last) => {
                 if !joins(last, &item) {
-                    let before = replace(last, item);
-                    self.earlier.push(before);
+                    self.earlier.push(last);
+                    *last = item;
                 }
             }
         }
@@ -159,7 +158,7 @@ fn adds_steps(last: &mut Record, t: u8, n: u64) -> bool
 }
 
 /// Whether some stop among the records names a check.
-fn some_names_check(records: &Records) -> bool
+fn some_names_check(records: &KeptRecords) -> bool
     ensures { result ≡ is_violated (records.now).records }
 {
     for i in 0..records.len() {

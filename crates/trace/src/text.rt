@@ -3,7 +3,7 @@ ghost use Rattle.std.specs.Prelude.{◌≡◌, ◌++◌, ◌∷◌, [], IfOk, On
 ghost use Rattle.std.specs.List.{flat_map};
 ghost use Rattle.trace.specs.Text.{input_text, is_brief, record_text, run_text, trace_text};
 
-use super::kept::Records;
+use super::kept::KeptRecords;
 use super::record::{push_input, push_record};
 use super::records::Trace;
 use meaning::{Action, Note, Record};
@@ -34,7 +34,7 @@ fn push_shown(text: &mut Vec<u8>, entry: &Record, full: bool) -> Result<(), Allo
 }
 
 /// Appends the lines of records, of all or of those that the brief text shows.
-fn push_records(text: &mut Vec<u8>, records: &Records, full: bool) -> Result<(), AllocError>
+fn push_records(text: &mut Vec<u8>, records: &KeptRecords, full: bool) -> Result<(), AllocError>
     ensures { OnOk result (text.new.items ≡ text.old.items ++ trace_text full (records.now).records) }
 {
     for i in 0..records.len() {

@@ -1,7 +1,7 @@
 use Rattle.std.proofs.Common.{◌≡◌, ℕ, ◌+◌, ◌||◌, ◌∙◌, Bool, true, false, List, Some, ap, sym, drop, slice_get}
 use Rattle.meaning.specs.Records.{is_violated, names_check}
 use Rattle.meaning.specs.declared.record.Record.{Record}
-use Rattle.trace.proofs.KeptRecords.{drop_from}
+use Rattle.trace.proofs.Places.{drop_from}
 use Rattle.trace.proofs.records.some_names_check.Goals as goal
 
 -- the answer of one record and that of those behind it are the answer of all, where none before it names a check

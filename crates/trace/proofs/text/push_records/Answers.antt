@@ -1,6 +1,6 @@
 use Rattle.std.proofs.Common.{◌+◌, ◌++◌, ◌∙◌, ap, sym, drop, append_assoc, ◌∷◌, []}
 use Rattle.trace.specs.Text.{trace_text}
-use Rattle.trace.proofs.KeptRecords.{drop_from}
+use Rattle.trace.proofs.Places.{drop_from}
 use Rattle.trace.proofs.Shown.{text_of_first}
 use Rattle.trace.proofs.text.push_records.Goals as goal
 

@@ -8,8 +8,7 @@ returns-then-not-joins-clause-records c =
     let item = c.args.item in
     let last = c.in-Some.last in
     let records_are : c.args.self.now.records ≡ earlier ++ last ∷ [] = sym (ap (λ t. t.records) c.self.view_is) ∙ ap (λ l. earlier ++ option_to_list l) c.in-Some.is in
-    let same : c.replace-before.result ≡ last = c.replace-before.ensures.value ∙ c.if-not-joins.ensures.same refl in
-    rw (c.push.ensures.records, same, c.replace-before.ensures.after, records_are, added_last earlier last item, c.if-not-joins.ensures.behind refl)
+    rw (c.push.ensures.records, c.if-not-joins.ensures.same refl, records_are, added_last earlier last item, c.if-not-joins.ensures.behind refl)
     (append_assoc earlier (last ∷ []) (item ∷ []))
 
 pub returns-else-not-joins-clause-records : goal.returns-else-not-joins-clause-records
