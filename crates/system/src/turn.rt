@@ -37,7 +37,7 @@ const MOST_RECORDS: usize = 11;
 ///
 /// # Errors
 ///
-/// `AllocError`. The thread, the inputs and the trace are as before.
+/// `AllocError`. The trace is as before.
 #[tactic(auto, using(crate::proofs::AnswersFit::answers_fit, crate::proofs::AnswersFit::slots_are_there, crate::proofs::Turns::told_records))]
 #[inline(never)]
 fn take_turn(
@@ -101,7 +101,7 @@ fn finish(
 ///
 /// # Errors
 ///
-/// `AllocError`. The thread, the inputs and the trace are as before.
+/// `AllocError`. The trace is as before.
 fn take_access(
     code: &Code,
     t: u8,

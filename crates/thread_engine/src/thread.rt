@@ -86,7 +86,7 @@ impl Thread {
         self.state.take_quiet_turn(code)
     }
 
-    /// The access that its next turn is, if it is one. Whoever answers it has the thread go on.
+    /// An access that its next turn is, or none. Whoever answers it has the thread go on.
     pub fn access(&self, code: &Code) -> Option<Access>
         requires valid { ValidCode code.now }
         requires sound { IsSound code.now self.now.thread }
