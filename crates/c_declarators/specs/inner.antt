@@ -1,5 +1,1 @@
-pub mod Parser
-pub mod ParserLemmas
-pub mod Readers
-pub mod Reads
-pub mod Nests
+pub mod Behind

@@ -2,33 +2,14 @@
 
 ghost use Rattle.std.specs.Prelude.{◌≡◌, ℕ, ◌+◌, ◌≤◌, ◌<◌, ◌^◌, if◌then◌else◌, nat_le, IfOk};
 ghost use Rattle.c_tree.specs.Marks.{Kinds};
-ghost use Rattle.c_declarators.specs.inner.Parser.{mismatch, pure};
-ghost use Rattle.c_declarators.specs.inner.Reads.{Reads};
-ghost use Rattle.c_declarators.specs.inner.Readers as reader;
+ghost use Rattle.c_readers.specs.inner.Parser.{mismatch, pure};
+ghost use Rattle.c_readers.specs.inner.Reads.{Reads};
+ghost use Rattle.c_readers.specs.inner.Readers as reader;
 
-use crate::boxes::boxed;
-use crate::error::Failure;
+use c_readers::{Bracketed, Core, Failure, boxed};
 use c_tree::{Declarator, Direct, Suffix};
-use c_types::Name;
 use sqlite_items::{Boxed, Items};
 use std::alloc::Global;
-
-/// What stands inside the parentheses of a declarator: a name, or a declarator with stars or suffixes.
-#[derive(Drop)]
-pub enum Core {
-    Name(Name),
-    Form(Boxed<Declarator>),
-}
-
-/// A core in parentheses.
-#[derive(Drop)]
-pub struct Bracketed {
-    pub core: Core,
-    /// How many pairs stand directly round it.
-    pub pairs: usize,
-    /// How deep its nodes are.
-    pub height: usize,
-}
 
 /// The tree of a core that stars or suffixes stand round.
 fn direct_of(core: Core) -> Direct

@@ -1,0 +1,2 @@
+mod NamesSet
+mod Runs
