@@ -27,8 +27,9 @@ use Rattle.c_scope.specs.Declarations.{is_free, may_be_declared}
 use Rattle.c_scope.specs.Definitions.{declare_function, declare_variable}
 use Rattle.c_scope.specs.Scopes.{bind}
 use Rattle.c_scope.specs.Walk.{Walk, ◌>>=◌, ◌>>◌, each, found, maybe, pure, rule, world}
-use Rattle.c_expr_typing.specs.declared.layered.LayeredDeclarator.{LayeredDeclarator}
-use Rattle.c_expr_typing.specs.Trees.{declared, typed_declarator, typed_spec}
+use Rattle.c_declarator_rules.specs.declared.declarators.LayeredDeclarator.{LayeredDeclarator}
+use Rattle.c_declarator_rules.specs.Rules.{declared}
+use Rattle.c_expr_typing.specs.Trees.{typed_declarator, typed_spec}
 use Rattle.c_declaration_typing.specs.Initialisers.{text_of, typed_init}
 
 -- ---- the bound that an initialiser gives an array

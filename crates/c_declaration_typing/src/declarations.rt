@@ -8,7 +8,8 @@ ghost use Rattle.c_scope.specs.Walks.{Walks};
 ghost use Rattle.c_declaration_typing.specs.Declarations as spec;
 
 use crate::initialisers::{initialiser, text_of};
-use c_expr_typing::{LayeredDeclarator, declarator, spec};
+use c_declarator_rules::LayeredDeclarator;
+use c_expr_typing::{declarator, spec};
 use c_layers::{CheckedShape, Shape, checked_shape, limited};
 use c_operators::has_units;
 use c_scope::{Failure, Meaning, Rule, World, declare_function, declare_variable, test};

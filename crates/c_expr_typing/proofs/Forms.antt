@@ -1,8 +1,6 @@
 -- The walk of each form of an expression, a spec, a declarator and a type word.
 use Rattle.std.proofs.Common.{◌≡◌, ℕ, Bool, List, map, Some, None, ap, sym, ◌∙◌}
 use Rattle.std.specs.Option.{option_map}
-use Rattle.c_layers.specs.declared.layer.Layer.{Layer}
-use Rattle.c_layers.specs.declared.layer.Layer.TheVariants as layer
 use Rattle.c_types.specs.declared.structs.Member.{Member}
 use Rattle.c_types.specs.declared.ty.Ty.TheVariants as ty
 use Rattle.c_tree.specs.declared.expression.AbstractDeclarator.{AbstractDeclarator, out-AbstractDeclarator}
@@ -20,13 +18,14 @@ use Rattle.c_tree.specs.declared.expression.Spec.{Spec}
 use Rattle.c_tree.specs.declared.expression.Spec.TheVariants as spec
 use Rattle.c_tree.specs.declared.expression.Suffix.TheVariants as suffix
 use Rattle.c_tree.specs.declared.expression.TypeWord.{TypeWord, out-TypeWord}
-use Rattle.c_tree.specs.Fold.{Pass, expr_node}
+use Rattle.c_tree.specs.Fold.{expr_node}
 use Rattle.c_tree.specs.inner.FoldEquations as tree
 use Rattle.c_typed.specs.declared.expression.TypedSpec.TheVariants as typed_spec
 use Rattle.c_rules.specs.declared.place.Place.{Place}
 use Rattle.c_scope.specs.declared.world.World.{World}
 use Rattle.c_scope.specs.Walk.{pure}
-use Rattle.c_expr_typing.specs.Trees.{abstract_step, bounded, called, declarator_step, direct_step, expr_step, member_step, param_step, params_step, struct_body, struct_spec, suffix_step, type_name, type_word_step, walk_steps, walked}
+use Rattle.c_declarator_rules.specs.Rules.{struct_spec, type_name}
+use Rattle.c_expr_typing.specs.Trees.{abstract_step, bounded, called, declarator_step, direct_step, expr_step, member_step, param_step, params_step, struct_body, suffix_step, type_word_step, walk_steps, walked}
 
 pub expr-of : (e : Expr) (place : Place) (w : World) → walked.expr e place w ≡ expr_step (expr_node walked e) place w
 unfolding walked

@@ -7,8 +7,9 @@ use Rattle.c_typed.specs.declared.expression.Declared.{Declared}
 use Rattle.c_typed.specs.declared.expression.TypedMemberDecl.{TypedMemberDecl}
 use Rattle.c_types.specs.declared.structs.Member.{Member}
 use Rattle.c_types.specs.declared.ty.Ty.{Ty}
-use Rattle.c_expr_typing.specs.declared.layered.LayeredDeclarator.{LayeredDeclarator}
-use Rattle.c_expr_typing.specs.Trees.{OfMember, member_declarators, members, one_member}
+use Rattle.c_declarator_rules.specs.declared.declarators.LayeredDeclarator.{LayeredDeclarator}
+use Rattle.c_declarator_rules.specs.Rules.{one_member}
+use Rattle.c_expr_typing.specs.Trees.{OfMember, member_declarators, members}
 
 -- what was found before stands in front
 abbrev behind : {A B : Type 0} → List A → Outcome ((List A × B) × World) → Outcome ((List A × B) × World)

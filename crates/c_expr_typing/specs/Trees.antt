@@ -1,10 +1,8 @@
 -- The walk of expressions, type words and declarators: each part in source order, then the rules of the whole.
-use Rattle.std.specs.Prelude.{ℕ, zero, suc, ◌+◌, Bool, true, false, ◌&&◌, nat_le, List, [], ◌∷◌, ◌++◌, length, map, Option, Some, None, ℤ, pos, int_le, unsigned_abs}
-use Rattle.std.specs.Option.{option_map}
+use Rattle.std.specs.Prelude.{Bool, false, nat_le, List, [], ◌∷◌, length, map, Some, None}
 use Rattle.c_layers.specs.declared.layer.Layer.{Layer}
 use Rattle.c_layers.specs.declared.layer.Layer.TheVariants as layer
 use Rattle.c_layers.specs.declared.layer.Parameter.{Parameter}
-use Rattle.c_layers.specs.Shapes.{stars_of}
 use Rattle.c_types.specs.declared.structs.Member.{Member}
 use Rattle.c_types.specs.declared.ty.Ty.{Ty}
 use Rattle.c_types.specs.declared.ty.Ty.TheVariants as ty
@@ -14,33 +12,28 @@ use Rattle.c_tree.specs.declared.expression.Direct.TheOpen.{AbstractDeclarator-F
 use Rattle.c_tree.specs.declared.expression.Expr.{Expr}
 use Rattle.c_tree.specs.declared.expression.Spec.{Spec}
 use Rattle.c_tree.specs.Fold.{Node, Pass, Results, Steps, fold}
-use Rattle.c_typed.specs.declared.entity.Constant.{Constant}
-use Rattle.c_typed.specs.declared.entity.Constant.TheVariants as constant
-use Rattle.c_typed.specs.declared.expression.Declared.{Declared, roll-Declared}
-use Rattle.c_typed.specs.declared.expression.TypedAbstractDeclarator.{TypedAbstractDeclarator, roll-TypedAbstractDeclarator}
-use Rattle.c_typed.specs.declared.expression.TypedDeclarator.{TypedDeclarator, roll-TypedDeclarator}
+use Rattle.c_typed.specs.declared.expression.Declared.{Declared}
+use Rattle.c_typed.specs.declared.expression.TypedAbstractDeclarator.{TypedAbstractDeclarator}
 use Rattle.c_typed.specs.declared.expression.TypedDirect.{TypedDirect}
 use Rattle.c_typed.specs.declared.expression.TypedDirect.TheVariants as direct
 use Rattle.c_typed.specs.declared.expression.TypedExpr.{TypedExpr}
 use Rattle.c_typed.specs.declared.expression.TypedForm.TheVariants as form
 use Rattle.c_typed.specs.declared.expression.TypedMemberDecl.{TypedMemberDecl, roll-TypedMemberDecl}
 use Rattle.c_typed.specs.declared.expression.TypedParam.{TypedParam}
-use Rattle.c_typed.specs.declared.expression.TypedParam.TheVariants as param
 use Rattle.c_typed.specs.declared.expression.TypedParams.{TypedParams}
 use Rattle.c_typed.specs.declared.expression.TypedParams.TheVariants as params
 use Rattle.c_typed.specs.declared.expression.TypedSpec.{TypedSpec}
 use Rattle.c_typed.specs.declared.expression.TypedSpec.TheVariants as spec
 use Rattle.c_typed.specs.declared.expression.TypedSuffix.{TypedSuffix}
 use Rattle.c_typed.specs.declared.expression.TypedSuffix.TheVariants as suffix
-use Rattle.c_typed.specs.declared.expression.TypedTypeWord.{TypedTypeWord, roll-TypedTypeWord}
+use Rattle.c_typed.specs.declared.expression.TypedTypeWord.{TypedTypeWord}
 use Rattle.c_scope.specs.declared.rule.Rule.TheVariants as broken
-use Rattle.c_scope.specs.declared.scopes.Meaning.{Meaning}
-use Rattle.c_scope.specs.declared.scopes.Meaning.TheVariants as means
-use Rattle.c_scope.specs.Declarations.{define, is_undefined, member_type, most_parameters, parameter, word_type}
+use Rattle.c_scope.specs.Declarations.{define, most_parameters}
 use Rattle.c_scope.specs.BuiltIns.{Name}
-use Rattle.c_scope.specs.Scopes.{meaning_of, tag, within}
-use Rattle.c_scope.specs.Walk.{Walk, ◌>>=◌, ◌>>◌, breaks, each, each_pair, found, maybe, pure, rule, world}
-use Rattle.c_expr_typing.specs.declared.layered.LayeredDeclarator.{LayeredDeclarator}
+use Rattle.c_scope.specs.Scopes.{within}
+use Rattle.c_scope.specs.Walk.{Walk, ◌>>=◌, ◌>>◌, each, each_pair, maybe, pure, rule}
+use Rattle.c_declarator_rules.specs.declared.declarators.LayeredDeclarator.{LayeredDeclarator}
+use Rattle.c_declarator_rules.specs.Rules.{abstract_layered, body_tag, constant_bound, layered, named_param, one_member, struct_spec, type_name, unnamed_param, whole_word}
 use Rattle.c_rules.specs.declared.place.Place.{Place}
 use Rattle.c_rules.specs.declared.place.Place.TheVariants.{Callee, Value}
 use Rattle.c_operators.specs.Operators.{constant_of}
@@ -127,17 +120,6 @@ expr_step (Expr-F.Text bytes) place = text bytes
 
 -- ---- declarators
 
-abbrev pub declared : TypedDeclarator → Ty → Declared
-declared d t = roll-Declared (record { declarator = d; ty = t })
-
-abbrev pub is_bound : ℤ → Bool
-is_bound v = int_le (pos 1) v && int_le v (pos 65536)
-
--- a bound is constant, and from 1 to 65,536
-abbrev pub constant_bound : Constant → Walk ℕ
-constant_bound (constant.Value v) = rule broken.Unsized (is_bound v) >> pure (unsigned_abs v)
-constant_bound _ = breaks broken.NotConstant
-
 abbrev pub bounded : OfExpr → Walk (TypedSuffix × Layer)
 bounded e = do
   x ← e Value
@@ -148,16 +130,6 @@ abbrev pub suffix_step : Node Found Suffix-F → Walk (TypedSuffix × Layer)
 suffix_step (Suffix-F.Array None) = pure (suffix.Array None, layer.Array None)
 suffix_step (Suffix-F.Array (Some e)) = bounded e
 suffix_step (Suffix-F.Function p) = p >>= (λ ps. pure (suffix.Function ps.0, layer.Function ps.1))
-
-abbrev pub named_param : TypedSpec × Ty → LayeredDeclarator → Walk (TypedParam × Parameter)
-named_param base x = do
-  t ← parameter (Some x.name) base.1 x.layers
-  pure (param.Named base.0 (declared x.tree t), record { name = Some x.name; ty = t })
-
-abbrev pub unnamed_param : TypedSpec × Ty → TypedAbstractDeclarator × List Layer → Walk (TypedParam × Parameter)
-unnamed_param base x = do
-  t ← parameter None base.1 x.1
-  pure (param.Unnamed base.0 x.0 t, record { name = None; ty = t })
 
 abbrev pub param_step : Node Found Param-F → Walk (TypedParam × Parameter)
 param_step (Param-F.Named s d) = do
@@ -181,43 +153,17 @@ abbrev pub direct_step : Node Found Direct-F → Walk (TypedDirect × Name × Li
 direct_step (Direct-F.Name x) = pure (direct.Name x, x, [])
 direct_step (Direct-F.Bracketed d) = d >>= (λ x. pure (direct.Bracketed x.tree, x.name, x.layers))
 
--- what stands inside, then the suffixes, then the stars
-abbrev pub layered : ℕ → TypedDirect × Name × List Layer → List TypedSuffix × List Layer → LayeredDeclarator
-layered stars inside suffixes = record {
-  tree = roll-TypedDeclarator (record { stars = stars; direct = inside.0; suffixes = suffixes.0 });
-  name = inside.1;
-  layers = inside.2 ++ suffixes.1 ++ stars_of stars;
-}
-
 abbrev pub declarator_step : Node Found Declarator-F → Walk LayeredDeclarator
 declarator_step d = do
   x ← d.direct
   ss ← each_pair d.suffixes
   pure (layered d.stars x ss)
 
-abbrev pub tree_inside : Option (TypedAbstractDeclarator × List Layer) → Option TypedAbstractDeclarator
-tree_inside o = option_map (λ x. x.0) o
-
-abbrev pub layers_inside : Option (TypedAbstractDeclarator × List Layer) → List Layer
-layers_inside None = []
-layers_inside (Some x) = x.1
-
-abbrev pub abstract_layered : ℕ → Option (TypedAbstractDeclarator × List Layer) → List TypedSuffix × List Layer → TypedAbstractDeclarator × List Layer
-abstract_layered stars inside suffixes = (
-  roll-TypedAbstractDeclarator (record { stars = stars; bracketed = tree_inside inside; suffixes = suffixes.0 }),
-  layers_inside inside ++ suffixes.1 ++ stars_of stars,
-)
-
 abbrev pub abstract_step : Node Found AbstractDeclarator-F → Walk (TypedAbstractDeclarator × List Layer)
 abstract_step a = do
   x ← maybe a.bracketed
   ss ← each_pair a.suffixes
   pure (abstract_layered a.stars x ss)
-
-abbrev pub whole_word : TypedSpec × Ty → TypedAbstractDeclarator × List Layer → Walk TypedTypeWord
-whole_word base x = do
-  t ← word_type base.1 x.1
-  pure (roll-TypedTypeWord (record { spec = base.0; declarator = x.0; ty = t }))
 
 abbrev pub type_word_step : Node Found TypeWord-F → Walk TypedTypeWord
 type_word_step t = do
@@ -226,25 +172,6 @@ type_word_step t = do
   whole_word base x
 
 -- ---- specs
-
-abbrev pub named_type : Option Meaning → Option Ty
-named_type (Some (means.TypeName t)) = Some t
-named_type _ = None
-
-abbrev pub type_name : Name → Walk (TypedSpec × Ty)
-type_name x = do
-  w ← world
-  t ← found broken.Undeclared (named_type (meaning_of w.scopes x))
-  pure (spec.TypeName x, t)
-
-abbrev pub struct_spec : Name → Walk (TypedSpec × Ty)
-struct_spec x = tag x >>= (λ n. pure (spec.Struct x None, ty.Struct n))
-
--- one declarator of members that stand behind these
-abbrev pub one_member : Ty → LayeredDeclarator → List Member → Walk (Declared × List Member)
-one_member base x before = do
-  t ← member_type before x.name base x.layers
-  pure (declared x.tree t, before ++ record { name = x.name; ty = t } ∷ [])
 
 abbrev pub member_declarators : Ty → List (Walk LayeredDeclarator) → List Member → Walk (List Declared × List Member)
 member_declarators base [] before = pure ([], before)
@@ -266,14 +193,6 @@ members (m ∷ ms) before = do
   x ← m before
   rest ← members ms x.1
   pure (x.0 ∷ rest.0, rest.1)
-
--- the tag of a body that may stand here
-abbrev pub body_tag : Name → Bool → Walk ℕ
-body_tag x bodies = do
-  n ← tag x
-  w ← world
-  rule broken.Tag (bodies && is_undefined w.structs n)
-  pure n
 
 abbrev pub struct_body : Name → List OfMember → Bool → Walk (TypedSpec × Ty)
 struct_body x ms bodies = do

@@ -1,9 +1,6 @@
 //! The walk of expressions, type words, specs and declarators: each part in source order, then the rules of the whole.
 #![tactic(auto)]
 
-mod layered;
-mod parts;
 mod walk;
 
-pub use layered::LayeredDeclarator;
 pub use walk::{declarator, expression, spec};

@@ -4,17 +4,16 @@
 ghost use Rattle.std.specs.Prelude.{◌≡◌, ◌++◌, ◌∷◌, [], map, OnOk};
 ghost use Rattle.c_expr_typing.specs.Trees as tree;
 ghost use Rattle.c_expr_typing.specs.Trees.{walked};
-ghost use Rattle.c_expr_typing.specs.inner.Walked.{with_list};
+ghost use Rattle.c_declarator_rules.specs.inner.Walked.{with_list};
 ghost use Rattle.c_scope.specs.Scopes.{within};
 ghost use Rattle.c_scope.specs.Walk.{each_pair, maybe};
 ghost use Rattle.c_scope.specs.Walks.{Walks};
 ghost use Rattle.c_tree.specs.Fold.{expr_node};
 ghost use Rattle.std.specs.Option.{option_map};
 
-use crate::layered::{LayeredAbstract, LayeredDeclarator, abstract_layered, layered};
-use crate::parts::{
-    body_tag, constant_bound, named_param, one_member, spec_of, struct_spec, type_name,
-    unnamed_param, whole_word,
+use c_declarator_rules::{
+    LayeredAbstract, LayeredDeclarator, abstract_layered, body_tag, constant_bound, layered,
+    named_param, one_member, spec_of, struct_spec, type_name, unnamed_param, whole_word,
 };
 use c_layers::{Layer, Layers, Parameter, Parameters};
 use c_rules::{

@@ -20,8 +20,9 @@ use Rattle.c_scope.specs.Definitions.{all_named, bind_parameters, declare_functi
 use Rattle.c_scope.specs.Definitions.{own_parameters}
 use Rattle.c_scope.specs.Scopes.{within}
 use Rattle.c_scope.specs.Walk.{Walk, ◌>>=◌, ◌>>◌, change, found, pure, rule, world}
-use Rattle.c_expr_typing.specs.declared.layered.LayeredDeclarator.{LayeredDeclarator}
-use Rattle.c_expr_typing.specs.Trees.{declared, typed_declarator}
+use Rattle.c_declarator_rules.specs.declared.declarators.LayeredDeclarator.{LayeredDeclarator}
+use Rattle.c_declarator_rules.specs.Rules.{declared}
+use Rattle.c_expr_typing.specs.Trees.{typed_declarator}
 use Rattle.c_typing.specs.Statements.{typed_block}
 
 -- the list of parameters stands at the name itself, and each has a name

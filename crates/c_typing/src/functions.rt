@@ -7,7 +7,8 @@ ghost use Rattle.c_scope.specs.Walks.{Walks};
 ghost use Rattle.c_typing.specs.Functions as spec;
 
 use crate::statements::block;
-use c_expr_typing::{LayeredDeclarator, declarator};
+use c_declarator_rules::LayeredDeclarator;
+use c_expr_typing::declarator;
 use c_layers::{CheckedShape, Layer, Shape, checked_shape};
 use c_scope::{
     Failure, Rule, World, all_named, bind_parameters, declare_function, mark_defined,

@@ -8,7 +8,7 @@ ghost use Rattle.c_typed.specs.declared.statement.TypedStmt.TheVariants as stmt;
 
 use crate::full_expressions::{condition, expression_statement, for_head, return_statement};
 use c_declaration_typing::declaration;
-use c_scope::{Failure, Rule, World, test};
+use c_scope::{Failure, Rule, World};
 use c_tree::{Block, BlockItem, ForLoop, FullExpr, Stmt};
 use c_typed::{TypedBlock, TypedBlockItem, TypedForLoop, TypedStmt};
 use c_types::Ty;
@@ -51,19 +51,31 @@ fn statement(
         }
         Stmt::Do(body, condition) => do_statement(alloc, world, returns, body.get(), condition),
         Stmt::For(inside) => for_statement(alloc, world, returns, in_loop, inside.get()),
-        Stmt::Break => jump(world, in_loop, TypedStmt::Break),
-        Stmt::Continue => jump(world, in_loop, TypedStmt::Continue),
+        Stmt::Break => break_statement(world, in_loop),
+        Stmt::Continue => continue_statement(world, in_loop),
         Stmt::Return(value) => return_statement(alloc, world, returns, value.as_ref()),
         Stmt::Expr(value) => expression_statement(alloc, world, value.as_ref()),
     }
 }
 
-/// `break` or `continue`, which stands in a loop.
-fn jump(_world: &World, in_loop: bool, made: TypedStmt) -> Result<TypedStmt, Failure>
-    ensures { Walks (spec.jump made in_loop _world.now) result _world.now }
+/// `break`, which stands in a loop.
+fn break_statement(_world: &World, in_loop: bool) -> Result<TypedStmt, Failure>
+    ensures { Walks (spec.jump stmt.Break in_loop _world.now) result _world.now }
 {
-    test(Rule::OutsideLoop, in_loop)?;
-    Ok(made)
+    if !in_loop {
+        return Err(Failure::Broken(Rule::OutsideLoop));
+    }
+    Ok(TypedStmt::Break)
+}
+
+/// `continue`, which stands in a loop.
+fn continue_statement(_world: &World, in_loop: bool) -> Result<TypedStmt, Failure>
+    ensures { Walks (spec.jump stmt.Continue in_loop _world.now) result _world.now }
+{
+    if !in_loop {
+        return Err(Failure::Broken(Rule::OutsideLoop));
+    }
+    Ok(TypedStmt::Continue)
 }
 
 /// A block that is a statement, in a scope of its own.

@@ -22,8 +22,9 @@ use Rattle.c_scope.specs.BuiltIns.{Name}
 use Rattle.c_scope.specs.Declarations.{is_new_member, is_undefined, is_undefined_at, member_rules, member_type}
 use Rattle.c_scope.specs.Scopes.{tag}
 use Rattle.c_scope.specs.Walk.{found, rule}
-use Rattle.c_expr_typing.specs.declared.layered.LayeredDeclarator.{LayeredDeclarator}
-use Rattle.c_expr_typing.specs.Trees.{Found, OfMember, body_tag, declared, member_declarators, member_step, members, one_member, typed_declarator, typed_spec, walked}
+use Rattle.c_declarator_rules.specs.declared.declarators.LayeredDeclarator.{LayeredDeclarator}
+use Rattle.c_declarator_rules.specs.Rules.{body_tag, declared, one_member}
+use Rattle.c_expr_typing.specs.Trees.{Found, OfMember, member_declarators, member_step, members, typed_declarator, typed_spec, walked}
 use Rattle.c_typing_laws.specs.Theorems.{StructsGetTheirBodies}
 use Rattle.c_typing_laws.specs.inner.Goes.{Sound}
 use Rattle.c_typing_laws.proofs.Conjunctions.{both, both_true}

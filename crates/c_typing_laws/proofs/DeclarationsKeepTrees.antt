@@ -10,7 +10,7 @@ use Rattle.c_tree.specs.declared.statement.InitDeclarator.{InitDeclarator}
 use Rattle.c_typed.specs.Erased.{erased_decl, erased_declared, erased_init, erased_init_declarator, erased_spec}
 use Rattle.c_scope.specs.declared.world.World.{World}
 use Rattle.c_scope.specs.Walk.{Walk, each, maybe}
-use Rattle.c_expr_typing.specs.declared.layered.LayeredDeclarator.{LayeredDeclarator}
+use Rattle.c_declarator_rules.specs.declared.declarators.LayeredDeclarator.{LayeredDeclarator}
 use Rattle.c_typing_laws.specs.inner.WalkedTrees.{WalksKeepTrees}
 use Rattle.c_typing_laws.specs.inner.ErasedTrees.{declarator_tree}
 use Rattle.c_expr_typing.specs.Trees.{typed_declarator, typed_spec}

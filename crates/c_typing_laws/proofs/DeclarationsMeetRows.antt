@@ -36,8 +36,8 @@ use Rattle.c_scope.specs.Declarations.{may_be_declared}
 use Rattle.c_scope.specs.Definitions.{bind_function, declare_function, declare_function_by, declare_variable, is_bound_here, make_known, make_known_by}
 use Rattle.c_scope.specs.Scopes.{bind, bound_in, known_function, outer}
 use Rattle.c_scope.specs.Walk.{Outcome, ◌>>◌, each, found, pure, rule}
-use Rattle.c_expr_typing.specs.declared.layered.LayeredDeclarator.{LayeredDeclarator}
-use Rattle.c_expr_typing.specs.Trees.{declared}
+use Rattle.c_declarator_rules.specs.declared.declarators.LayeredDeclarator.{LayeredDeclarator}
+use Rattle.c_declarator_rules.specs.Rules.{declared}
 use Rattle.c_declaration_typing.specs.Declarations.{completed, declare, declare_all, declare_by, declared_type, optional_init, shaped_type, type_rules, typed_decl, typed_init_declarator}
 use Rattle.c_typed_rows.specs.Contexts.{Context, global_type, local_type}
 use Rattle.c_typed_rows.specs.Statements.{DeclaredRow, IfInit, IsTypedDecl, IsTypedInitDeclarator, VariableRow}

@@ -22,8 +22,9 @@ use Rattle.c_typed.specs.declared.expression.TypedDirect.TheVariants as typed_di
 use Rattle.c_typed.specs.declared.expression.TypedSuffix.{TypedSuffix}
 use Rattle.c_scope.specs.declared.world.World.{World}
 use Rattle.c_scope.specs.Walk.{Walk}
-use Rattle.c_expr_typing.specs.declared.layered.LayeredDeclarator.{LayeredDeclarator}
-use Rattle.c_expr_typing.specs.Trees.{declared, typed_declarator, walked}
+use Rattle.c_declarator_rules.specs.declared.declarators.LayeredDeclarator.{LayeredDeclarator}
+use Rattle.c_declarator_rules.specs.Rules.{declared}
+use Rattle.c_expr_typing.specs.Trees.{typed_declarator, walked}
 use Rattle.c_typed_rows.specs.Contexts.{Name}
 use Rattle.c_typed_rows.specs.Sources.{direct_name, name_of}
 use Rattle.c_typing_laws.specs.inner.Yields.{Yields, after, at_once, whatever}

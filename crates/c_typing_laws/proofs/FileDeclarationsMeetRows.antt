@@ -26,8 +26,9 @@ use Rattle.c_scope.specs.BuiltIns.{Name, built_in_named}
 use Rattle.c_scope.specs.Definitions.{bind_function, declare_function, declare_function_by, declare_variable, make_known}
 use Rattle.c_scope.specs.Scopes.{bind, bound_in}
 use Rattle.c_scope.specs.Walk.{Outcome, Walk, ◌>>=◌, ◌>>◌, and_then, each, pure}
-use Rattle.c_expr_typing.specs.declared.layered.LayeredDeclarator.{LayeredDeclarator}
-use Rattle.c_expr_typing.specs.Trees.{declared, typed_declarator, typed_spec}
+use Rattle.c_declarator_rules.specs.declared.declarators.LayeredDeclarator.{LayeredDeclarator}
+use Rattle.c_declarator_rules.specs.Rules.{declared}
+use Rattle.c_expr_typing.specs.Trees.{typed_declarator, typed_spec}
 use Rattle.c_declaration_typing.specs.Declarations.{completed, declare, declare_all, declare_by, optional_init, shaped_type, typed_decl, typed_init_declarator}
 use Rattle.c_typed_rows.specs.Contexts.{Context, Signature}
 use Rattle.c_typed_rows.specs.Expressions.{IsTypedSpec}

@@ -29,8 +29,9 @@ use Rattle.c_scope.specs.BuiltIns.{Name}
 use Rattle.c_scope.specs.Definitions.{all_named, bind_parameters, declare_function, declare_variable, mark_defined, marked, may_be_defined, own_parameter, own_parameters}
 use Rattle.c_scope.specs.Scopes.{bind, bound_in, enter, known_function, leave, outer, with_function}
 use Rattle.c_scope.specs.Walk.{Outcome, Walk, ◌>>=◌, ◌>>◌, and_then, pure}
-use Rattle.c_expr_typing.specs.declared.layered.LayeredDeclarator.{LayeredDeclarator}
-use Rattle.c_expr_typing.specs.Trees.{declared, typed_declarator}
+use Rattle.c_declarator_rules.specs.declared.declarators.LayeredDeclarator.{LayeredDeclarator}
+use Rattle.c_declarator_rules.specs.Rules.{declared}
+use Rattle.c_expr_typing.specs.Trees.{typed_declarator}
 use Rattle.c_typing.specs.Functions.{bind_own, bind_own_by, define_function, function_body, function_parts, is_definition, shaped_function, take_locals, typed_function}
 use Rattle.c_typing.specs.Statements.{typed_block}
 use Rattle.c_typed_rows.specs.Contexts.{Context, Signature, defined_as}

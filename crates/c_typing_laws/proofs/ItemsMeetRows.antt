@@ -28,7 +28,7 @@ use Rattle.c_scope.specs.Declarations.{is_free}
 use Rattle.c_scope.specs.Definitions.{is_main, is_main_type, undefined_use}
 use Rattle.c_scope.specs.Scopes.{empty, known_function}
 use Rattle.c_scope.specs.Walk.{Outcome, Walk, ◌>>=◌, each, pure}
-use Rattle.c_expr_typing.specs.declared.layered.LayeredDeclarator.{LayeredDeclarator}
+use Rattle.c_declarator_rules.specs.declared.declarators.LayeredDeclarator.{LayeredDeclarator}
 use Rattle.c_expr_typing.specs.Trees.{typed_declarator, typed_spec}
 use Rattle.c_declaration_typing.specs.Declarations.{declare_type, named_type, shaped_name, typed_decl, typed_type}
 use Rattle.c_typing.specs.Functions.{typed_function}

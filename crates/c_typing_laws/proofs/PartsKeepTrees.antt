@@ -28,9 +28,10 @@ use Rattle.c_layers.specs.declared.layer.Parameter.{Parameter}
 use Rattle.c_scope.specs.declared.world.World.{World}
 use Rattle.c_scope.specs.Walk.{Walk, each_pair, maybe}
 use Rattle.c_rules.specs.declared.place.Place.TheVariants.{Value}
-use Rattle.c_expr_typing.specs.declared.layered.LayeredDeclarator.{LayeredDeclarator}
+use Rattle.c_declarator_rules.specs.declared.declarators.LayeredDeclarator.{LayeredDeclarator}
 use Rattle.c_typing_laws.specs.inner.ErasedTrees.{abstract_tree, declarator_tree, member_tree, param_tree, suffix_tree}
-use Rattle.c_expr_typing.specs.Trees.{OfMember, member_declarators, members, one_member, tree_inside, walked}
+use Rattle.c_declarator_rules.specs.Rules.{one_member, tree_inside}
+use Rattle.c_expr_typing.specs.Trees.{OfMember, member_declarators, members, walked}
 use Rattle.c_typing_laws.specs.inner.ErasedDeclarators as erased
 use Rattle.c_typing_laws.specs.inner.Yields.{Yields, after, at_once, each_pair_yields, inside_scope, map_twice, whatever}
 use Rattle.c_typing_laws.proofs.KeptNodes as kept

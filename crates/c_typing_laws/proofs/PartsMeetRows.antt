@@ -46,8 +46,9 @@ use Rattle.c_scope.specs.Scopes.{bind, bound_in, enter, leave, meaning_of, outer
 use Rattle.c_scope.specs.Walk.{Outcome, Walk, ◌>>=◌, ◌>>◌, and_then, each_pair, maybe, pure, rule, world}
 use Rattle.c_rules.specs.declared.place.Place.TheVariants.{Value}
 use Rattle.c_operators.specs.Operators.{constant_of}
-use Rattle.c_expr_typing.specs.declared.layered.LayeredDeclarator.{LayeredDeclarator}
-use Rattle.c_expr_typing.specs.Trees.{Found, OfMember, body_tag, constant_bound, is_bound, member_declarators, members, named_type, one_member, spec_step, tree_inside, type_name, walked}
+use Rattle.c_declarator_rules.specs.declared.declarators.LayeredDeclarator.{LayeredDeclarator}
+use Rattle.c_declarator_rules.specs.Rules.{body_tag, constant_bound, is_bound, named_type, one_member, tree_inside, type_name}
+use Rattle.c_expr_typing.specs.Trees.{Found, OfMember, member_declarators, members, spec_step, walked}
 use Rattle.c_typed_rows.specs.Contexts.{Context, global_type}
 use Rattle.c_typed_rows.specs.Expressions.{IsTypedDeclared, IsTypedSpec}
 use Rattle.c_typing_laws.specs.Worlds.{Below, MeaningFits, ScopesFit, local_types}

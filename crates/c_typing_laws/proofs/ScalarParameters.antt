@@ -33,8 +33,9 @@ use Rattle.c_scope.specs.declared.world.World.{World}
 use Rattle.c_scope.specs.Declarations.{bind_parameter, may_be_parameter, parameter}
 use Rattle.c_scope.specs.Walk.{Walk, each_pair, found, rule}
 use Rattle.c_rules.specs.declared.place.Place.TheVariants.{Value}
-use Rattle.c_expr_typing.specs.declared.layered.LayeredDeclarator.{LayeredDeclarator}
-use Rattle.c_expr_typing.specs.Trees.{OfExpr, bounded, constant_bound, typed_declarator, walked}
+use Rattle.c_declarator_rules.specs.declared.declarators.LayeredDeclarator.{LayeredDeclarator}
+use Rattle.c_declarator_rules.specs.Rules.{constant_bound}
+use Rattle.c_expr_typing.specs.Trees.{OfExpr, bounded, typed_declarator, walked}
 use Rattle.c_operators.specs.Operators.{constant_of}
 use Rattle.c_typed.specs.declared.expression.TypedSuffix.TheVariants as suffix
 use Rattle.c_typed_rows.specs.Contexts.{Name}

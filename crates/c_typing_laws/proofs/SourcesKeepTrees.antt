@@ -18,7 +18,7 @@ use Rattle.c_scope.specs.declared.world.World.{World}
 use Rattle.c_scope.specs.Definitions.{undefined_use}
 use Rattle.c_scope.specs.Scopes.{empty}
 use Rattle.c_scope.specs.Walk.{Outcome, ◌>>◌, each}
-use Rattle.c_expr_typing.specs.declared.layered.LayeredDeclarator.{LayeredDeclarator}
+use Rattle.c_declarator_rules.specs.declared.declarators.LayeredDeclarator.{LayeredDeclarator}
 use Rattle.c_typing_laws.specs.inner.WalkedTrees.{WalksKeepTrees}
 use Rattle.c_expr_typing.specs.Trees.{typed_declarator, typed_spec}
 use Rattle.c_typing_laws.specs.inner.ErasedDeclarators.{declared-made}

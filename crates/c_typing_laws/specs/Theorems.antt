@@ -22,7 +22,8 @@ use Rattle.c_typed.specs.Erased.{erased}
 use Rattle.c_scope.specs.declared.world.World.{World}
 use Rattle.c_scope.specs.Declarations.{is_undefined}
 use Rattle.c_rules.specs.declared.place.Place.TheVariants.{Value}
-use Rattle.c_expr_typing.specs.Trees.{body_tag, members, typed_expr, walked}
+use Rattle.c_declarator_rules.specs.Rules.{body_tag}
+use Rattle.c_expr_typing.specs.Trees.{members, typed_expr, walked}
 use Rattle.c_declaration_typing.specs.Declarations.{typed_decl}
 use Rattle.c_typing.specs.Functions.{typed_function}
 use Rattle.c_declaration_typing.specs.Initialisers.{typed_init}

@@ -25,7 +25,7 @@ use Rattle.c_typed.specs.declared.expression.TypedSuffix.{TypedSuffix}
 use Rattle.c_scope.specs.declared.world.World.{World}
 use Rattle.c_scope.specs.BuiltIns.{Name}
 use Rattle.c_rules.specs.declared.place.Place.{Place}
-use Rattle.c_expr_typing.specs.declared.layered.LayeredDeclarator.{LayeredDeclarator}
+use Rattle.c_declarator_rules.specs.declared.declarators.LayeredDeclarator.{LayeredDeclarator}
 use Rattle.c_expr_typing.specs.Trees.{walked}
 use Rattle.c_typing_types.specs.Filled.{are_some, declares, spec_fills}
 use Rattle.c_typed_rows.specs.Types.{SpecTypes}

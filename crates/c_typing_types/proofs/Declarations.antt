@@ -26,8 +26,8 @@ use Rattle.c_scope.specs.Declarations.{is_free, may_be_declared}
 use Rattle.c_scope.specs.Definitions.{bind_function, declare_function, declare_function_by, declare_variable, is_bound_here, make_known, make_known_by}
 use Rattle.c_scope.specs.Scopes.{bind, bound_in, known_function}
 use Rattle.c_scope.specs.Walk.{◌>>◌, each, pure}
-use Rattle.c_expr_typing.specs.declared.layered.LayeredDeclarator.{LayeredDeclarator}
-use Rattle.c_expr_typing.specs.Trees.{declared}
+use Rattle.c_declarator_rules.specs.declared.declarators.LayeredDeclarator.{LayeredDeclarator}
+use Rattle.c_declarator_rules.specs.Rules.{declared}
 use Rattle.c_declaration_typing.specs.Declarations.{allowed, bounded, closed, completed, declare, declare_all, declare_by, declare_type, declared_type, given_at, given_bound, named_type, optional_init, shaped_name, shaped_type, text_bound, type_rules, typed_decl, typed_init_declarator, typed_type}
 use Rattle.c_declaration_typing.specs.Initialisers.{text_of}
 use Rattle.c_typing_types.specs.Filled.{decl_fills, init_fills, init_fills_at, optional_fills, spec_fills}

@@ -48,8 +48,9 @@ use Rattle.c_scope.specs.Scopes.{bind, bound_in, meaning_of, most_tags, new_tag,
 use Rattle.c_scope.specs.Walk.{Walk, each_pair, maybe}
 use Rattle.c_rules.specs.declared.place.Place.TheVariants.{Value}
 use Rattle.c_operators.specs.Operators.{constant_of}
-use Rattle.c_expr_typing.specs.declared.layered.LayeredDeclarator.{LayeredDeclarator}
-use Rattle.c_expr_typing.specs.Trees.{Found, OfMember, body_tag, constant_bound, declared, is_bound, layers_inside, member_declarators, members, named_type, one_member, spec_step, tree_inside, type_name, walked}
+use Rattle.c_declarator_rules.specs.declared.declarators.LayeredDeclarator.{LayeredDeclarator}
+use Rattle.c_declarator_rules.specs.Rules.{body_tag, constant_bound, declared, is_bound, layers_inside, named_type, one_member, tree_inside, type_name}
+use Rattle.c_expr_typing.specs.Trees.{Found, OfMember, member_declarators, members, spec_step, walked}
 use Rattle.c_typing_types.specs.Filled.{any_declares, are_some, declares, spec_fills, spec_fills_at}
 use Rattle.c_typed_rows.specs.Types.{DeclaredTypes, SpecTypes}
 use Rattle.c_typing_types.proofs.Claimed.{FindsAbstract, FindsDeclarator, FindsDirect, FindsMember, FindsParam, FindsParams, FindsSpec, FindsSuffix, FindsTypeWord, ReadyAbstract, ReadyDeclarator, ReadyDirect, ReadyMember, ReadyParam, ReadyParams, ReadySpec, ReadySuffix, claims}

@@ -26,8 +26,8 @@ use Rattle.c_scope.specs.BuiltIns.{Name}
 use Rattle.c_scope.specs.Definitions.{bind_parameters, mark_defined, may_be_defined, own_parameter, undefined_use}
 use Rattle.c_scope.specs.Scopes.{empty, most_tags}
 use Rattle.c_scope.specs.Walk.{Outcome, ◌>>◌, found}
-use Rattle.c_expr_typing.specs.declared.layered.LayeredDeclarator.{LayeredDeclarator}
-use Rattle.c_expr_typing.specs.Trees.{declared}
+use Rattle.c_declarator_rules.specs.declared.declarators.LayeredDeclarator.{LayeredDeclarator}
+use Rattle.c_declarator_rules.specs.Rules.{declared}
 use Rattle.c_declaration_typing.specs.Declarations.{typed_type}
 use Rattle.c_typing.specs.Functions.{bind_own, define_function, defined_type, function_body, function_parts, is_definition, shaped_function, take_locals, typed_function}
 use Rattle.c_typing.specs.Sources.{Verdict, at_item, finished_behind, finished_by, function_item, items_behind, typed_item, typed_items, typed_source, typedef_item, with_first}

@@ -9,7 +9,7 @@ use Rattle.c_typed.specs.declared.expression.TypedSpec.{TypedSpec}
 use Rattle.c_typed.specs.Erased.{erased_expr, erased_spec}
 use Rattle.c_rules.specs.declared.place.Place.{Place}
 use Rattle.c_scope.specs.declared.world.World.{World}
-use Rattle.c_expr_typing.specs.declared.layered.LayeredDeclarator.{LayeredDeclarator}
+use Rattle.c_declarator_rules.specs.declared.declarators.LayeredDeclarator.{LayeredDeclarator}
 use Rattle.c_expr_typing.specs.Trees.{typed_declarator, typed_expr, typed_spec}
 use Rattle.c_typing_laws.specs.inner.ErasedTrees.{declarator_tree}
 

@@ -3,12 +3,12 @@
 
 ghost use Rattle.std.specs.Prelude.{◌≡◌};
 ghost use Rattle.std.specs.Option.{option_copied};
-ghost use Rattle.c_expr_typing.specs.Trees as tree;
-ghost use Rattle.c_expr_typing.specs.inner.Walked.{twice, with_list};
+ghost use Rattle.c_declarator_rules.specs.Rules as rule;
+ghost use Rattle.c_declarator_rules.specs.inner.Walked.{twice, with_list};
 ghost use Rattle.c_scope.specs.Declarations.{member_type as type_of_member, parameter as type_of_parameter};
 ghost use Rattle.c_scope.specs.Walks.{Walks};
 
-use crate::layered::{LayeredAbstract, LayeredDeclarator};
+use crate::declarators::{LayeredAbstract, LayeredDeclarator};
 use c_layers::{Layer, Parameter};
 use c_scope::{Failure, Meaning, Rule, World, member_type, parameter, tag, test, word_type};
 use c_typed::{Constant, Declared, TypedParam, TypedSpec, TypedTypeWord};
@@ -18,8 +18,12 @@ use std::alloc::Global;
 use tables::Table;
 
 /// A bound, which is constant and from 1 to 65,536.
-pub(crate) fn constant_bound(_world: &World, constant: Constant) -> Result<u32, Failure>
-    ensures { Walks (tree.constant_bound constant _world.now) result _world.now }
+///
+/// # Errors
+///
+/// `Broken`, where it is not.
+pub fn constant_bound(_world: &World, constant: Constant) -> Result<u32, Failure>
+    ensures { Walks (rule.constant_bound constant _world.now) result _world.now }
 {
     let Constant::Value(value) = constant else {
         return Err(Failure::Broken(Rule::NotConstant));
@@ -47,7 +51,7 @@ fn parameter_types(
 }
 
 /// The spec alone.
-pub(crate) fn spec_of(base: Boxed<(TypedSpec, Ty)>) -> TypedSpec
+pub fn spec_of(base: Boxed<(TypedSpec, Ty)>) -> TypedSpec
     ensures { result ≡ base.0 }
 {
     let (spec, _) = base.into_inner();
@@ -55,13 +59,17 @@ pub(crate) fn spec_of(base: Boxed<(TypedSpec, Ty)>) -> TypedSpec
 }
 
 /// A parameter with a name.
-pub(crate) fn named_param(
+///
+/// # Errors
+///
+/// `Broken`, at the first rule that is broken. `Memory`, where no memory is left.
+pub fn named_param(
     alloc: Global,
     world: &mut World,
     base: Boxed<(TypedSpec, Ty)>,
     declarator: Boxed<LayeredDeclarator>,
 ) -> Result<(TypedParam, Parameter), Failure>
-    ensures { Walks (tree.named_param base declarator world.old) result world.new }
+    ensures { Walks (rule.named_param base declarator world.old) result world.new }
 {
     let whole = declarator.get();
     let layers = whole.layers.as_slice();
@@ -75,13 +83,17 @@ pub(crate) fn named_param(
 }
 
 /// A parameter without a name.
-pub(crate) fn unnamed_param(
+///
+/// # Errors
+///
+/// `Broken`, at the first rule that is broken. `Memory`, where no memory is left.
+pub fn unnamed_param(
     alloc: Global,
     world: &mut World,
     base: Boxed<(TypedSpec, Ty)>,
     declarator: Boxed<LayeredAbstract>,
 ) -> Result<(TypedParam, Parameter), Failure>
-    ensures { Walks (tree.unnamed_param base declarator world.old) result world.new }
+    ensures { Walks (rule.unnamed_param base declarator world.old) result world.new }
 {
     let layers = declarator.get().1.as_slice();
     let (ty, again) = parameter_types(alloc, world, None, &base.get().1, layers)?;
@@ -94,13 +106,17 @@ pub(crate) fn unnamed_param(
 }
 
 /// A type word.
-pub(crate) fn whole_word(
+///
+/// # Errors
+///
+/// `Broken`, at the first rule that is broken. `Memory`, where no memory is left.
+pub fn whole_word(
     alloc: Global,
     world: &World,
     base: Boxed<(TypedSpec, Ty)>,
     declarator: Boxed<LayeredAbstract>,
 ) -> Result<TypedTypeWord, Failure>
-    ensures { Walks (tree.whole_word base declarator world.now) result world.now }
+    ensures { Walks (rule.whole_word base declarator world.now) result world.now }
 {
     let layers = declarator.get().1.as_slice();
     let ty = word_type(alloc, world, copy_type(&base.get().1)?, layers)?;
@@ -113,12 +129,12 @@ pub(crate) fn whole_word(
 }
 
 /// A type name.
-pub(crate) fn type_name(
-    alloc: Global,
-    world: &World,
-    name: &Name,
-) -> Result<(TypedSpec, Ty), Failure>
-    ensures { Walks (tree.type_name name.now world.now) result world.now }
+///
+/// # Errors
+///
+/// `Broken`, at the first rule that is broken. `Memory`, where no memory is left.
+pub fn type_name(alloc: Global, world: &World, name: &Name) -> Result<(TypedSpec, Ty), Failure>
+    ensures { Walks (rule.type_name name.now world.now) result world.now }
 {
     match world.scopes.meaning(name.bytes()) {
         Some(Meaning::TypeName(ty)) => {
@@ -129,12 +145,16 @@ pub(crate) fn type_name(
 }
 
 /// A struct by its tag alone.
-pub(crate) fn struct_spec(
+///
+/// # Errors
+///
+/// `Broken`, at the first rule that is broken. `Memory`, where no memory is left.
+pub fn struct_spec(
     alloc: Global,
     world: &mut World,
     name: &Name,
 ) -> Result<(TypedSpec, Ty), Failure>
-    ensures { Walks (tree.struct_spec name.now world.old) result world.new }
+    ensures { Walks (rule.struct_spec name.now world.old) result world.new }
 {
     let number = tag(alloc, world, name)?;
     Ok((
@@ -144,13 +164,12 @@ pub(crate) fn struct_spec(
 }
 
 /// The tag of a body that may stand here.
-pub(crate) fn body_tag(
-    alloc: Global,
-    world: &mut World,
-    name: &Name,
-    bodies: bool,
-) -> Result<u32, Failure>
-    ensures { Walks (tree.body_tag name.now bodies world.old) result world.new }
+///
+/// # Errors
+///
+/// `Broken`, at the first rule that is broken. `Memory`, where no memory is left.
+pub fn body_tag(alloc: Global, world: &mut World, name: &Name, bodies: bool) -> Result<u32, Failure>
+    ensures { Walks (rule.body_tag name.now bodies world.old) result world.new }
 {
     let number = tag(alloc, world, name)?;
     test(Rule::Tag, bodies && world.is_undefined(number))?;
@@ -183,14 +202,18 @@ fn member_types(
 }
 
 /// One declarator of members, which stands behind these.
-pub(crate) fn one_member(
+///
+/// # Errors
+///
+/// `Broken`, at the first rule that is broken. `Memory`, where no memory is left.
+pub fn one_member(
     alloc: Global,
     world: &World,
     base: &Ty,
     declarator: Boxed<LayeredDeclarator>,
     members: &mut Table<Member>,
 ) -> Result<Declared, Failure>
-    ensures { let found = tree.one_member base.now declarator members.old world.now
+    ensures { let found = rule.one_member base.now declarator members.old world.now
         in Walks found (with_list result members.new) world.now }
 {
     let (ty, again) = member_types(alloc, world, members, base, declarator.get())?;

@@ -1,7 +1,7 @@
 //! Declarators with what their layers say.
 
 ghost use Rattle.std.specs.Prelude.{◌≡◌, IfOk};
-ghost use Rattle.c_expr_typing.specs.Trees as tree;
+ghost use Rattle.c_declarator_rules.specs.Rules as rule;
 
 use c_layers::{Layers, joined};
 use c_typed::{Declared, TypedAbstractDeclarator, TypedDeclarator, TypedDirect, TypedSuffix};
@@ -20,7 +20,7 @@ pub struct LayeredDeclarator {
 impl LayeredDeclarator {
     /// The declarator with the type that it gives its name, and the name.
     pub fn into_declared(self, ty: Ty) -> (Declared, Name)
-        ensures { result ≡ (tree.declared self.tree ty, self.name) }
+        ensures { result ≡ (rule.declared self.tree ty, self.name) }
     {
         let LayeredDeclarator {
             tree,
@@ -36,16 +36,20 @@ impl LayeredDeclarator {
 }
 
 /// A declarator without a name, and its layers.
-pub(crate) type LayeredAbstract = (TypedAbstractDeclarator, Layers);
+pub type LayeredAbstract = (TypedAbstractDeclarator, Layers);
 
 /// What stands inside, then the suffixes, then the stars.
-pub(crate) fn layered(
+///
+/// # Errors
+///
+/// `AllocError`, where no memory is left.
+pub fn layered(
     alloc: Global,
     stars: u32,
     inside: (TypedDirect, Name, Layers),
     suffixes: (Items<TypedSuffix>, Layers),
 ) -> Result<Boxed<LayeredDeclarator>, AllocError>
-    ensures { IfOk result (λ declarator. declarator ≡ tree.layered stars inside suffixes) }
+    ensures { IfOk result (λ declarator. declarator ≡ rule.layered stars inside suffixes) }
 {
     let (direct, name, layers) = inside;
     let (suffixes, behind) = suffixes;
@@ -65,14 +69,18 @@ pub(crate) fn layered(
 }
 
 /// The same of a declarator without a name.
-pub(crate) fn abstract_layered(
+///
+/// # Errors
+///
+/// `AllocError`, where no memory is left.
+pub fn abstract_layered(
     alloc: Global,
     stars: u32,
     inside: Option<Boxed<LayeredAbstract>>,
     suffixes: (Items<TypedSuffix>, Layers),
 ) -> Result<Boxed<LayeredAbstract>, AllocError>
     ensures { IfOk result
-        (λ declarator. declarator ≡ tree.abstract_layered stars inside suffixes) }
+        (λ declarator. declarator ≡ rule.abstract_layered stars inside suffixes) }
 {
     let (suffixes, behind) = suffixes;
     let (bracketed, layers) = abstract_inside(alloc, inside)?;
@@ -90,7 +98,7 @@ fn abstract_inside(
     alloc: Global,
     inside: Option<Boxed<LayeredAbstract>>,
 ) -> Result<(Option<Boxed<TypedAbstractDeclarator>>, Layers), AllocError>
-    ensures { IfOk result (λ it. it ≡ (tree.tree_inside inside, tree.layers_inside inside)) }
+    ensures { IfOk result (λ it. it ≡ (rule.tree_inside inside, rule.layers_inside inside)) }
 {
     match inside {
         None => Ok((None, Items::new(alloc))),
