@@ -54,7 +54,9 @@ impl KeptRecords {
         self.places.reserve(n)
     }
 
-    /// Adds a record, which is kept unless it equals the one with its hash that was last kept.
+    /// Adds a record, which is kept unless it equals the one with its hash that was last kept. It isn't inlined, so that
+    /// the path of steps behind steps stays small where records are pushed.
+    #[inline(never)]
     pub(crate) fn push(&mut self, item: &Record)
         requires { 1 ≤ (self.old).spare }
         ensures records { (self.new).records ≡ (self.old).records ++ item.now ∷ [] }
