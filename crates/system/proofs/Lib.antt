@@ -1,4 +1,6 @@
 mod AnswersFit
+mod JoinedSteps
+mod QuietTurns
 mod RecordsInOrder
 mod RunsInParts
 mod SeatLemmas

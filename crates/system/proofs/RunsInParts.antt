@@ -120,3 +120,12 @@ repeated_parts (suc n) k events inside =
           ∙ ap (λ x. repeated k events ++ x) (append_assoc events parts.0 events),
     ))
     (eq-or-lt_of_le at_most)
+
+pub repeated-append : (a b : ℕ) (events : List Event) → repeated a events ++ repeated b events ≡ repeated (a + b) events
+repeated-append a zero events =
+    let on : a + zero ≡ a = omega arith in append-nil (repeated a events) ∙ ap (λ k. repeated k events) (sym on)
+repeated-append a (suc b) events =
+    let on : a + suc b ≡ suc (a + b) = omega arith in
+    sym (append_assoc (repeated a events) (repeated b events) events)
+    ∙ ap (λ x. x ++ events) (repeated-append a b events)
+    ∙ ap (λ k. repeated k events) (sym on)

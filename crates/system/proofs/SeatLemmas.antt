@@ -31,6 +31,11 @@ module _ {X : Type 0} where
   set_same (z ∷ zs) zero x is = cc
   set_same (z ∷ zs) (suc i) x is = ap (λ rest. z ∷ rest) (set_same zs i x is)
 
+  pub got_set : (xs : List X) (i : ℕ) (x y : X) → slice_get xs i ≡ Some x → slice_get (slice_set xs i y) i ≡ Some y
+  got_set [] i x y is = cc
+  got_set (z ∷ zs) zero x y is = refl
+  got_set (z ∷ zs) (suc i) x y is = got_set zs i x y is
+
   replicate_push : (x : X) (n : ℕ) → replicate n x ++ x ∷ [] ≡ x ∷ replicate n x
   replicate_push x zero = refl
   replicate_push x (suc n) = ap (λ rest. x ∷ rest) (replicate_push x n)

@@ -2,13 +2,15 @@
 use Rattle.std.proofs.Common.{◌≡◌, ℕ, zero, suc, ◌+◌, ◌-◌, ◌<◌, ◌≤◌, List, [], ◌∷◌, ◌++◌, length, get_or, map, replicate, sym, ap, ◌∙◌, arith, Option, Some, slice_get, slice_set, ⊎_elim}
 use Rattle.std.proofs.lemmas.List.{length-map, length-set, map_push}
 use Rattle.std.proofs.lemmas.Option.{slice_get-get_or}
+use Rattle.meaning.specs.Blocks.{repeated}
+use Rattle.meaning.specs.declared.event.Event.TheVariants.{Turn}
 use Rattle.meaning.specs.declared.record.Record.{Record}
 use Rattle.meaning.specs.declared.value.Value.{Value}
 use Rattle.machine.specs.declared.code.Code.{Code}
 use Rattle.machine.specs.Frames.{Thread, Running, Waiting}
 use Rattle.machine.specs.Logs.{first_thread}
 use Rattle.machine.specs.Protected.{protected}
-use Rattle.machine.specs.Run.{cuts, turns}
+use Rattle.machine.specs.Run.{cuts, state_after, steps_from}
 use Rattle.machine.specs.Threads.{opened}
 use Rattle.machine.specs.Trace.{traced}
 use Rattle.thread_engine.specs.State.{ThreadState}
@@ -25,32 +27,28 @@ pub found : (items : List (Option ThreadState)) (i t : ℕ) (seat : Option Threa
 found items i t seat same within is =
     sym (ap (slice_get items) same) ∙ slice_get-get_or items i seat within ∙ ap Some (sym is)
 
--- ---- a turn of the thread in a seat
+-- ---- so many turns of the thread in a seat
 
-pub turned : (code : Code) (m m' : Memories) (items : List (Option ThreadState)) (t : ℕ) (seat seat' : Option ThreadState)
+pub turned : (code : Code) (m m' : Memories) (items : List (Option ThreadState)) (t n : ℕ) (seat seat' : Option ThreadState)
     → m.region.threads ≡ length items
     → slice_get items t ≡ Some seat
     → ((threads : List (Thread Value)) → length threads ≡ m.region.threads → slice_get threads t ≡ Some (thread_of seat)
-    → (turns (setting_with code m) (state_with m threads) t (Some (thread_of seat))).after
+    → state_after (setting_with code m) (state_with m threads) (repeated n (Turn t ∷ []))
     ≡ state_with m' (slice_set threads t (thread_of seat')))
     → state_with m' (map thread_of (slice_set items t seat'))
-    ≡ (turns (setting_with code m) (state_with m (map thread_of items)) t (slice_get (map thread_of items) t)).after
-turned code m m' items t seat seat' count is after =
-    let there = get_map thread_of items t seat is in
+    ≡ state_after (setting_with code m) (state_with m (map thread_of items)) (repeated n (Turn t ∷ []))
+turned code m m' items t n seat seat' count is after =
     ap (state_with m') (map_set thread_of items t seat')
-    ∙ sym (after (map thread_of items) (length-map items thread_of ∙ sym count) there)
-    ∙ sym (ap (λ x. (turns (setting_with code m) (state_with m (map thread_of items)) t x).after) there)
+    ∙ sym (after (map thread_of items) (length-map items thread_of ∙ sym count) (get_map thread_of items t seat is))
 
-pub turn_recorded : (code : Code) (m : Memories) (items : List (Option ThreadState)) (t : ℕ) (seat : Option ThreadState) (before after : List Record)
+pub turn_recorded : (code : Code) (m : Memories) (items : List (Option ThreadState)) (t n : ℕ) (seat : Option ThreadState) (before after : List Record)
     → m.region.threads ≡ length items
     → slice_get items t ≡ Some seat
-    → ((threads : List (Thread Value)) → length threads ≡ m.region.threads
-    → after ≡ traced before ((turns (setting_with code m) (state_with m threads) t (Some (thread_of seat))).step ∷ []))
-    → after ≡ traced before ((turns (setting_with code m) (state_with m (map thread_of items)) t (slice_get (map thread_of items) t)).step ∷ [])
-turn_recorded code m items t seat before after count is records =
-    let there = get_map thread_of items t seat is in
-    records (map thread_of items) (length-map items thread_of ∙ sym count)
-    ∙ sym (ap (λ x. traced before ((turns (setting_with code m) (state_with m (map thread_of items)) t x).step ∷ [])) there)
+    → ((threads : List (Thread Value)) → length threads ≡ m.region.threads → slice_get threads t ≡ Some (thread_of seat)
+    → after ≡ traced before (steps_from (setting_with code m) (state_with m threads) (repeated n (Turn t ∷ []))))
+    → after ≡ traced before (steps_from (setting_with code m) (state_with m (map thread_of items)) (repeated n (Turn t ∷ [])))
+turn_recorded code m items t n seat before after count is records =
+    records (map thread_of items) (length-map items thread_of ∙ sym count) (get_map thread_of items t seat is)
 
 -- ---- a cut of the thread in a seat
 

@@ -1,2 +1,3 @@
-pub mod Seats
+pub mod QuietTurns
 pub mod Runs
+pub mod Seats

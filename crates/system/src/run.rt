@@ -7,7 +7,7 @@ ghost use Rattle.system.specs.inner.Seats.{first_threads};
 ghost use Rattle.thread_engine.specs.State.{ThreadState};
 
 use super::memories::Memories;
-use super::turn::{cut_seat, turn_seat};
+use super::turn::{cut_seat, turns_of_seat};
 use machine::Code;
 use meaning::{Block, Event, Events, Inputs, Record};
 use plain_seq::Plain;
@@ -47,7 +47,7 @@ impl System {
     ghost use Rattle.machine.specs.ValidCode.{ValidCode};
     ghost use Rattle.machine.specs.Run.{opening, happens, steps_from, state_after};
     ghost use Rattle.machine.specs.Trace.{traced};
-    ghost use Rattle.meaning.specs.Blocks.{events_of};
+    ghost use Rattle.meaning.specs.Blocks.{events_of, repeated};
     ghost use Rattle.system.specs.State.{state_of, setting_of, threads_of, IsSystem, IsSystemOf};
     ghost use Rattle.system.specs.inner.Runs.{IsBehind, IsKept, IsWithin};
 
@@ -108,11 +108,46 @@ impl System {
         ensures threads { threads_of self.new ≡ threads_of self.old }
         ensures inputs { trace.new.inputs ≡ trace.old.inputs }
     {
-        let Some(seat) = self.threads.get_mut(usize::from(t)) else {
-            return Ok(());
-        };
-        turn_seat(code, t, seat, &mut self.memories, &mut self.notes, trace)?;
+        self.turns(code, t, 1, trace)?;
         Ok(())
+    }
+
+    /// Turns of a thread, at least one and at most so many, which are recorded: how many they are. They do nothing where the thread has
+    /// ended or stopped, or there is no such thread.
+    ///
+    /// # Errors
+    ///
+    /// `AllocError`, which leaves the trace as it was.
+    fn turns(
+        &mut self,
+        code: &Code,
+        t: u8,
+        most: usize,
+        trace: &mut Trace,
+    ) -> Result<usize, AllocError>
+        requires valid { ValidCode code.now }
+        requires same { IsSystemOf code.now self.old }
+        requires some { 1 ≤ most }
+        ensures least { IfOk result (λ n. 1 ≤ n) }
+        ensures most { IfOk result (λ n. n ≤ most) }
+        ensures ok { IfOk result (λ n. IsBehind code.now (repeated n (Turn t ∷ [])) self.old self.new trace.old.records trace.new.records) }
+        ensures err { OnErr result (trace.new.records ≡ trace.old.records) }
+        ensures kept { IsKept code.now self.old self.new }
+        ensures inputs { trace.new.inputs ≡ trace.old.inputs }
+    {
+        let Some(seat) = self.threads.get_mut(usize::from(t)) else {
+            return Ok(1);
+        };
+        let taken = turns_of_seat(
+            code,
+            t,
+            seat,
+            &mut self.memories,
+            &mut self.notes,
+            trace,
+            most,
+        )?;
+        Ok(taken)
     }
 
     /// A corruption: word `v` is written at address `a` of ordinary memory.
@@ -199,8 +234,59 @@ impl System {
         ensures kept { IsKept code.now self.old self.new }
         ensures inputs { trace.new.inputs ≡ trace.old.inputs }
     {
-        for _ in 0..block.times {
-            self.run_events(code, block.events.as_slice(), trace)?;
+        match block.events.as_slice() {
+            [Event::Turn(t)] => self.run_turns(code, *t, block.times, trace),
+            events => self.run_rounds(code, events, block.times, trace),
+        }
+    }
+
+    /// So many turns of a thread.
+    ///
+    /// # Errors
+    ///
+    /// `AllocError`. The trace then has the records of the turns before it.
+    fn run_turns(
+        &mut self,
+        code: &Code,
+        t: u8,
+        times: usize,
+        trace: &mut Trace,
+    ) -> Result<(), AllocError>
+        requires valid { ValidCode code.now }
+        requires same { IsSystemOf code.now self.old }
+        ensures ok { OnOk result (IsBehind code.now (repeated times (Turn t ∷ [])) self.old self.new trace.old.records trace.new.records) }
+        ensures err { OnErr result (IsWithin code.now (repeated times (Turn t ∷ [])) self.old trace.old.records trace.new.records) }
+        ensures kept { IsKept code.now self.old self.new }
+        ensures inputs { trace.new.inputs ≡ trace.old.inputs }
+    {
+        let mut left = times;
+        while left > 0 {
+            left -= self.turns(code, t, left, trace)?;
+        }
+        Ok(())
+    }
+
+    /// These events, one after another, so many times.
+    ///
+    /// # Errors
+    ///
+    /// `AllocError`. The trace then has the records of the events before it.
+    fn run_rounds(
+        &mut self,
+        code: &Code,
+        events: &[Event],
+        times: usize,
+        trace: &mut Trace,
+    ) -> Result<(), AllocError>
+        requires valid { ValidCode code.now }
+        requires same { IsSystemOf code.now self.old }
+        ensures ok { OnOk result (IsBehind code.now (repeated times events.now) self.old self.new trace.old.records trace.new.records) }
+        ensures err { OnErr result (IsWithin code.now (repeated times events.now) self.old trace.old.records trace.new.records) }
+        ensures kept { IsKept code.now self.old self.new }
+        ensures inputs { trace.new.inputs ≡ trace.old.inputs }
+    {
+        for _ in 0..times {
+            self.run_events(code, events, trace)?;
         }
         Ok(())
     }

@@ -1,15 +1,17 @@
 //! What an event does to one thread.
-ghost use Rattle.std.specs.Prelude.{◌≡◌, ◌≤◌, ◌<◌, [], ◌∷◌, List, length, slice_get, slice_set, Option, OnOk, OnErr};
+ghost use Rattle.std.specs.Prelude.{◌≡◌, ◌≤◌, ◌<◌, [], ◌∷◌, List, length, slice_get, slice_set, Option, IfOk, OnOk, OnErr};
 ghost use Rattle.machine.specs.declared.code.Code.{Code};
 ghost use Rattle.meaning.specs.declared.action.Action.TheVariants as act;
 ghost use Rattle.meaning.specs.declared.action.Reply.TheVariants as reply;
 ghost use Rattle.meaning.specs.declared.value.Value.{Value};
 ghost use Rattle.meaning.specs.Action.{Fits};
+ghost use Rattle.meaning.specs.Blocks.{repeated};
 ghost use Rattle.meaning.specs.Records.{added, added_all};
 ghost use Rattle.meaning.specs.declared.record.Record.{Record};
 ghost use Rattle.machine.specs.Frames.{Thread as ModelThread};
 ghost use Rattle.machine.specs.Protected.{next, resume};
-ghost use Rattle.machine.specs.Run.{cuts, turns};
+ghost use Rattle.meaning.specs.declared.event.Event.TheVariants.{Turn};
+ghost use Rattle.machine.specs.Run.{cuts, state_after, steps_from};
 ghost use Rattle.machine.specs.Store.{remembered};
 ghost use Rattle.machine.specs.Trace.{traced, turn_records};
 ghost use Rattle.machine.specs.ValidCode.{ValidCode};
@@ -18,6 +20,7 @@ ghost use Rattle.thread_engine.specs.Accesses.{IsAccess, StandsLow, gone_on};
 ghost use Rattle.thread_engine.specs.Sound.{IsSound, most_slots};
 ghost use Rattle.trace.specs.Records.{IsTold};
 ghost use Rattle.system.specs.State.{IsSeat, thread_of};
+ghost use Rattle.system.specs.inner.QuietTurns.{AreQuietTurns};
 ghost use Rattle.system.specs.inner.Seats.{Keeps, answer_of, is_running, setting_with, state_with, told_of};
 
 use super::memories::Memories;
@@ -174,31 +177,54 @@ fn take_access(
     Ok(())
 }
 
-/// A turn of thread `t`, unless it isn't live. Its notes are put in place of these.
+/// Takes turns of a thread while they are quiet, at most so many, and tells how many.
+fn take_quiet_turns(code: &Code, thread: &mut Thread, most: usize) -> usize
+    requires valid { ValidCode code.now }
+    requires sound { IsSound code.now thread.old.thread }
+    ensures few { result ≤ most }
+    ensures turns { AreQuietTurns code.now thread.old.number result thread.old.thread thread.new.thread }
+    ensures number { thread.new.number ≡ thread.old.number }
+    ensures sound { IsSound code.now thread.new.thread }
+{
+    for taken in 0..most {
+        if !thread.is_live() || !thread.take_quiet_turn(code) {
+            return taken;
+        }
+    }
+    most
+}
+
+/// Turns of thread `t`, at least one and at most so many: those that are quiet, or the next one, whose notes are put in place of
+/// these. A thread that isn't live does nothing in a turn. Tells how many turns they are.
 ///
 /// # Errors
 ///
 /// `AllocError`. The trace is as before.
-#[tactic(auto, using(crate::proofs::Turns::taken, crate::proofs::Turns::recorded, crate::proofs::Turns::stays, crate::proofs::Turns::unrecorded, crate::proofs::Turns::quietly_taken, crate::proofs::Turns::quietly_recorded))]
-pub fn turn_seat(
+#[tactic(auto, using(crate::proofs::Turns::taken_once, crate::proofs::Turns::recorded_once, crate::proofs::Turns::stays_once, crate::proofs::Turns::unrecorded_once, crate::proofs::QuietTurns::quietly_taken, crate::proofs::QuietTurns::quietly_recorded))]
+pub fn turns_of_seat(
     code: &Code,
     t: u8,
     seat: &mut Option<Thread>,
     memories: &mut Memories,
     notes: &mut Notes,
     trace: &mut Trace,
-) -> Result<(), AllocError>
+    most: usize,
+) -> Result<usize, AllocError>
     requires valid { ValidCode code.now }
     requires seat { IsSeat code.now t seat.old }
     requires few { t < 16 }
     requires slots { memories.old.region.slots ≤ most_slots }
-    ensures after { OnOk result ((threads : List (ModelThread Value)) → length threads ≡ memories.old.region.threads
+    requires some { 1 ≤ most }
+    ensures least { IfOk result (λ n. 1 ≤ n) }
+    ensures most { IfOk result (λ n. n ≤ most) }
+    ensures after { IfOk result (λ n. (threads : List (ModelThread Value)) → length threads ≡ memories.old.region.threads
         → slice_get threads t ≡ Option.Some (thread_of seat.old)
-        → (turns (setting_with code.now memories.old) (state_with memories.old threads) t (Option.Some (thread_of seat.old))).after
+        → state_after (setting_with code.now memories.old) (state_with memories.old threads) (repeated n (Turn t ∷ []))
         ≡ state_with memories.new (slice_set threads t (thread_of seat.new))) }
-    ensures recorded { OnOk result ((threads : List (ModelThread Value)) → length threads ≡ memories.old.region.threads
+    ensures recorded { IfOk result (λ n. (threads : List (ModelThread Value)) → length threads ≡ memories.old.region.threads
+        → slice_get threads t ≡ Option.Some (thread_of seat.old)
         → trace.new.records ≡ traced trace.old.records
-        ((turns (setting_with code.now memories.old) (state_with memories.old threads) t (Option.Some (thread_of seat.old))).step ∷ [])) }
+        (steps_from (setting_with code.now memories.old) (state_with memories.old threads) (repeated n (Turn t ∷ [])))) }
     ensures err { OnErr result (trace.new.records ≡ trace.old.records) }
     ensures seat { IsSeat code.now t seat.new }
     ensures kept { Keeps memories.old memories.new }
@@ -207,16 +233,18 @@ pub fn turn_seat(
     match seat {
         Some(thread) if thread.is_live() => {
             trace.reserve(MOST_RECORDS)?;
-            if thread.take_quiet_turn(code) {
-                trace.push(Record::Steps { t, n: 1 });
-                return Ok(());
+            let quiet = take_quiet_turns(code, thread, most);
+            if quiet > 0 {
+                trace.push(Record::Steps { t, n: quiet as u64 });
+                return Ok(quiet);
             }
             match thread.access(code) {
-                Some(access) => take_access(code, t, thread, memories, notes, trace, access),
-                None => take_turn(code, t, thread, memories, notes, trace),
+                Some(access) => take_access(code, t, thread, memories, notes, trace, access)?,
+                None => take_turn(code, t, thread, memories, notes, trace)?,
             }
+            Ok(1)
         }
-        _ => Ok(()),
+        _ => Ok(1),
     }
 }
 
