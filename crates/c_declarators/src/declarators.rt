@@ -7,8 +7,9 @@ ghost use Rattle.c_readers.specs.inner.Readers as reader;
 ghost use Rattle.c_readers.specs.inner.Readers.{readers};
 ghost use Rattle.c_readers.specs.inner.Reads.{Reads};
 
-use crate::brackets::{formed, whole_of};
-use c_readers::{Bracketed, Core, Cursor, Failure, Grammar, Names, free_name, opened};
+use c_readers::{
+    Bracketed, Core, Cursor, Failure, Grammar, Names, formed, free_name, opened, whole_of,
+};
 use c_tokens::Mark;
 use c_tree::{Declarator, Expr, Params};
 use sqlite_items::{Boxed, Items};
@@ -84,7 +85,7 @@ where
         ensures reads { Reads (reader.finished self.now.grammar.names.now (below self.now.grammar.names.now self.now.grammar.depth) (self.now.grammar.depth - 1) stars inside tokens.old) result tokens.new }
         ensures height { IfOk result (λ b. b.height ≤ 1 + (self.now.grammar.depth - 1)) }
     {
-        let suffixes = self.suffixes(tokens)?;
+        let suffixes = self.grammar.suffixes(tokens)?;
         if stars == 0 && suffixes.0.is_empty() {
             return Ok(inside);
         }

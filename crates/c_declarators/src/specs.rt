@@ -147,7 +147,7 @@ where
         }
         let inner = self.inner();
         let (spec, spec_height) = inner.spec(tokens, false)?;
-        let (declarator, height) = inner.abstract_declarator(tokens)?;
+        let (declarator, height) = inner.grammar.abstract_declarator(tokens)?;
         let word = TypeWord {
             spec: spec.into_inner(),
             declarator: declarator.into_inner(),
@@ -168,7 +168,7 @@ where
             let param = Param::Named(spec.into_inner(), declarator.into_inner());
             boxed(self.grammar.alloc, param, spec_height.max(height))
         } else {
-            let (declarator, height) = self.abstract_declarator(tokens)?;
+            let (declarator, height) = self.grammar.abstract_declarator(tokens)?;
             let param = Param::Unnamed(spec.into_inner(), declarator.into_inner());
             boxed(self.grammar.alloc, param, spec_height.max(height))
         }

@@ -1,2 +1,3 @@
 mod NamesSet
+mod ReadersLemmas
 mod Runs

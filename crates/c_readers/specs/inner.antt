@@ -4,3 +4,4 @@ pub mod Readers
 pub mod Reads
 pub mod Nests
 pub mod NestsLemmas
+pub mod Behind

@@ -22,7 +22,7 @@ use Rattle.c_tree.specs.declared.statement.Stmt.{Stmt}
 use Rattle.c_tree.specs.declared.statement.Stmt.TheVariants as stmt_as
 use Rattle.c_tree.specs.Marks.{Kinds, assign_level}
 use Rattle.c_tree.specs.Trees.{full, block as block_of, for_loop}
-use Rattle.c_readers.specs.inner.Parser.{Parser, Outcome, WithHeight, ◌>>=◌, ◌>>◌, pure, mismatch, is_word, sees, behind, eat, expect}
+use Rattle.c_readers.specs.inner.Parser.{Parser, Outcome, WithHeight, ◌>>=◌, ◌>>◌, pure, mismatch, is_word, behind, eat, expect}
 use Rattle.c_readers.specs.inner.Readers.{Readers, readers, begins_spec}
 use Rattle.c_statements.specs.declared.form.Form.{Form}
 use Rattle.c_statements.specs.declared.form.Form.TheVariants as form_as

@@ -17,3 +17,6 @@ returns-in_err-declarator-clause-reads g c = rw (type_word_some c.args.self.now.
 pub returns-clause-reads : goal.returns-clause-reads
 unfolding reader.type_word
 returns-clause-reads g c = rw (type_word_some c.args.self.now.grammar.names.now c.args.self.now.grammar.depth c.args.tokens.now (omega arith)) (search rules)
+
+pub returns-clause-height : goal.returns-clause-height
+returns-clause-height g c = c.boxed.ensures.height c.args.self.now.grammar.depth (omega (arith, c.in_ok-spec.ensures.height, c.in_ok-declarator.ensures.height, c.inner-inner.ensures.depth, c.max.ensures))
