@@ -21,7 +21,7 @@ ghost use Rattle.thread_engine.specs.Sound.{IsSound, most_slots};
 ghost use Rattle.trace.specs.Records.{IsTold};
 ghost use Rattle.system.specs.State.{IsSeat, thread_of};
 ghost use Rattle.system.specs.inner.QuietTurns.{AreQuietTurns};
-ghost use Rattle.system.specs.inner.Seats.{Keeps, answer_of, is_running, setting_with, state_with, told_of};
+ghost use Rattle.system.specs.inner.Seats.{Keeps, TakesTurn, answer_of, is_running, setting_with, state_with, told_of};
 
 use super::memories::Memories;
 use super::record::record_turn;
@@ -57,15 +57,10 @@ fn take_turn(
     requires few { t < 16 }
     requires slots { memories.old.region.slots ≤ most_slots }
     requires spare { 11 ≤ trace.old.spare }
-    ensures thread { OnOk result (thread.new.thread ≡ (told_of code.now t thread.old.thread memories.old).thread) }
+    ensures ok { OnOk result (TakesTurn code.now t thread.old.thread thread.new.thread memories.old memories.new
+        trace.old.records trace.new.records) }
     ensures number { thread.new.number ≡ t }
     ensures sound { IsSound code.now thread.new.thread }
-    ensures region { OnOk result (memories.new.region ≡ behind memories.old.region (next code.now t thread.old.thread)) }
-    ensures plain { OnOk result (memories.new.plain ≡ remembered memories.old.plain (next code.now t thread.old.thread)) }
-    ensures records { OnOk result (trace.new.records ≡ added_all trace.old.records
-        (turn_records t (next code.now t thread.old.thread)
-        (answer_of memories.old (next code.now t thread.old.thread))
-        (told_of code.now t thread.old.thread memories.old).notes)) }
     ensures err { OnErr result (trace.new.records ≡ trace.old.records) }
     ensures kept { Keeps memories.old memories.new }
     ensures inputs { trace.new.inputs ≡ trace.old.inputs }
@@ -121,15 +116,10 @@ fn take_access(
     requires slots { memories.old.region.slots ≤ most_slots }
     requires spare { 11 ≤ trace.old.spare }
     requires access { IsAccess code.now t thread.old.thread access }
-    ensures thread { OnOk result (thread.new.thread ≡ (told_of code.now t thread.old.thread memories.old).thread) }
+    ensures ok { OnOk result (TakesTurn code.now t thread.old.thread thread.new.thread memories.old memories.new
+        trace.old.records trace.new.records) }
     ensures number { thread.new.number ≡ t }
     ensures sound { IsSound code.now thread.new.thread }
-    ensures region { OnOk result (memories.new.region ≡ behind memories.old.region (next code.now t thread.old.thread)) }
-    ensures plain { OnOk result (memories.new.plain ≡ remembered memories.old.plain (next code.now t thread.old.thread)) }
-    ensures records { OnOk result (trace.new.records ≡ added_all trace.old.records
-        (turn_records t (next code.now t thread.old.thread)
-        (answer_of memories.old (next code.now t thread.old.thread))
-        (told_of code.now t thread.old.thread memories.old).notes)) }
     ensures err { OnErr result (trace.new.records ≡ trace.old.records) }
     ensures kept { Keeps memories.old memories.new }
     ensures inputs { trace.new.inputs ≡ trace.old.inputs }

@@ -8,7 +8,11 @@ use Rattle.machine.specs.Frames.{Thread, has_begun, is_live}
 use Rattle.machine.specs.Logs.{first_thread}
 use Rattle.machine.specs.Protected.{next, resume}
 use Rattle.machine.specs.Run.{Setting, State}
-use Rattle.machine.specs.Store.{answer}
+use Rattle.machine.specs.Store.{answer, remembered}
+use Rattle.machine.specs.Trace.{turn_records}
+use Rattle.meaning.specs.declared.record.Record.{Record}
+use Rattle.meaning.specs.Records.{added_all}
+use Rattle.region_seq.specs.Bounded.{behind}
 use Rattle.machine.specs.Threads.{Told}
 use Rattle.system.specs.declared.memories.Memories.{Memories}
 
@@ -41,3 +45,11 @@ state_with m threads = record { store = m.region.store; memory = m.plain; thread
 
 abbrev pub setting_with : Code → Memories → Setting
 setting_with code m = record { code = code; inputs = m.inputs; slots = m.region.slots }
+
+-- a turn of live thread t: what it makes of the thread, the memories and the records
+pub record TakesTurn (code : Code) (t : ℕ) (thread thread' : Thread Value) (m m' : Memories) (records records' : List Record) : Type 0 where
+  pub told : thread' ≡ (told_of code t thread m).thread
+  pub region : m'.region ≡ behind m.region (next code t thread)
+  pub plain : m'.plain ≡ remembered m.plain (next code t thread)
+  pub recorded : records' ≡ added_all records
+      (turn_records t (next code t thread) (answer_of m (next code t thread)) (told_of code t thread m).notes)

@@ -17,9 +17,9 @@ pub returns-in_ok-take_access-in-Some-access-clause-after : goal.returns-in_ok-t
 returns-in_ok-take_access-in-Some-access-clause-after c = λ threads long at.
     let none : c.take_quiet_turns-quiet.result ≡ 0 = omega (arith, c.if-quiet-gt0.false) in
     let same : c.take_quiet_turns-quiet.new.thread.thread ≡ c.in-Some.thread.thread = rw none at c.take_quiet_turns-quiet.ensures.turns in
-    let did = c.in_ok-take_access-in-Some-access.ensures in
+    let did = c.in_ok-take_access-in-Some-access.ensures.ok in
     taken_once c.args.code.now c.args.t c.in-Some.thread.thread c.take_access.new.thread.thread c.args.memories.now c.take_access.new.memories threads
-    long (sym c.if-is_live.ensures) (rw same at did.thread) (rw same at did.region) (rw same at did.plain)
+    long (sym c.if-is_live.ensures) (rw same at did.told) (rw same at did.region) (rw same at did.plain)
     (at ∙ ap (λ s. Some (thread_of s)) c.in-Some.is)
 
 pub returns-in_ok-take_access-in-Some-access-clause-recorded : goal.returns-in_ok-take_access-in-Some-access-clause-recorded
@@ -28,16 +28,16 @@ returns-in_ok-take_access-in-Some-access-clause-recorded c = λ threads long at.
     let same : c.take_quiet_turns-quiet.new.thread.thread ≡ c.in-Some.thread.thread = rw none at c.take_quiet_turns-quiet.ensures.turns in
     let begun = c.in_ok-reserve-in-Some.ensures.records in
     recorded_once c.args.code.now c.args.t c.in-Some.thread.thread c.args.memories.now threads c.args.trace.now.records c.take_access.new.trace.records
-    long (sym c.if-is_live.ensures) (rw (same, begun) at c.in_ok-take_access-in-Some-access.ensures.records)
+    long (sym c.if-is_live.ensures) (rw (same, begun) at c.in_ok-take_access-in-Some-access.ensures.ok.recorded)
     (at ∙ ap (λ s. Some (thread_of s)) c.in-Some.is)
 
 pub returns-in_ok-take_turn-in-None-clause-after : goal.returns-in_ok-take_turn-in-None-clause-after
 returns-in_ok-take_turn-in-None-clause-after c = λ threads long at.
     let none : c.take_quiet_turns-quiet.result ≡ 0 = omega (arith, c.if-quiet-gt0.false) in
     let same : c.take_quiet_turns-quiet.new.thread.thread ≡ c.in-Some.thread.thread = rw none at c.take_quiet_turns-quiet.ensures.turns in
-    let did = c.in_ok-take_turn-in-None.ensures in
+    let did = c.in_ok-take_turn-in-None.ensures.ok in
     taken_once c.args.code.now c.args.t c.in-Some.thread.thread c.take_turn.new.thread.thread c.args.memories.now c.take_turn.new.memories threads
-    long (sym c.if-is_live.ensures) (rw same at did.thread) (rw same at did.region) (rw same at did.plain)
+    long (sym c.if-is_live.ensures) (rw same at did.told) (rw same at did.region) (rw same at did.plain)
     (at ∙ ap (λ s. Some (thread_of s)) c.in-Some.is)
 
 pub returns-in_ok-take_turn-in-None-clause-recorded : goal.returns-in_ok-take_turn-in-None-clause-recorded
@@ -46,5 +46,5 @@ returns-in_ok-take_turn-in-None-clause-recorded c = λ threads long at.
     let same : c.take_quiet_turns-quiet.new.thread.thread ≡ c.in-Some.thread.thread = rw none at c.take_quiet_turns-quiet.ensures.turns in
     let begun = c.in_ok-reserve-in-Some.ensures.records in
     recorded_once c.args.code.now c.args.t c.in-Some.thread.thread c.args.memories.now threads c.args.trace.now.records c.take_turn.new.trace.records
-    long (sym c.if-is_live.ensures) (rw (same, begun) at c.in_ok-take_turn-in-None.ensures.records)
+    long (sym c.if-is_live.ensures) (rw (same, begun) at c.in_ok-take_turn-in-None.ensures.ok.recorded)
     (at ∙ ap (λ s. Some (thread_of s)) c.in-Some.is)
