@@ -1,3 +1,1 @@
-mod NamesSet
 mod ReadersLemmas
-mod Runs

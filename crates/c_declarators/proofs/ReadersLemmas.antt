@@ -2,33 +2,11 @@
 use Rattle.std.proofs.Common.{◌≡◌, ℕ, zero, suc, ◌-◌, ◌<◌, Bool, List, None, refl, ap, ◌∙◌, arith}
 use Rattle.c_tokens.specs.declared.token.Mark.TheVariants as mark
 use Rattle.c_tree.specs.Marks.{Kinds}
-use Rattle.c_declarators.specs.inner.Nests.{below}
-use Rattle.c_declarators.specs.inner.Parser.{◌>>=◌, run}
-use Rattle.c_declarators.specs.inner.Readers as reader
-use Rattle.c_declarators.specs.inner.Readers.{Readers, readers, nothing}
-
-pub below_zero : (names : List (List ℕ)) (depth : ℕ) → depth ≡ 0 → below names depth ≡ nothing
-unfolding below
-below_zero names depth is = ap (λ d. below names d) is
-
-pub below_suc : (names : List (List ℕ)) (depth : ℕ) → below names (suc depth) ≡ readers names depth
-unfolding below
-below_suc names depth = refl
-
-pub below_more : (names : List (List ℕ)) (depth : ℕ) → 0 < depth → below names depth ≡ readers names (depth - 1)
-below_more names depth some = let e : depth ≡ suc (depth - 1) = omega arith in ap (λ d. below names d) e ∙ below_suc names (depth - 1)
-
--- what holds at a depth behind another holds at each depth that is not 0
-pub some_depth : (P : ℕ → Type 0) → ((d : ℕ) → P (suc d)) → (depth : ℕ) → 0 < depth → P depth
-some_depth P h zero some = absurd (omega arith)
-some_depth P h (suc d) some = h d
-
-less_one : (d : ℕ) → d ≡ suc d - 1
-less_one d = omega arith
-
-pub abstract_zero : (names : List (List ℕ)) (depth : ℕ) (ts : Kinds) → depth ≡ 0 → (readers names depth).abstract ts ≡ None
-unfolding readers
-abstract_zero names depth ts is = ap (λ d. (readers names d).abstract ts) is
+use Rattle.c_readers.specs.inner.Nests.{below}
+use Rattle.c_readers.specs.inner.NestsLemmas.{some_depth, less_one}
+use Rattle.c_readers.specs.inner.Parser.{◌>>=◌, run}
+use Rattle.c_readers.specs.inner.Readers as reader
+use Rattle.c_readers.specs.inner.Readers.{Readers, readers}
 
 pub declarator_zero : (names : List (List ℕ)) (depth : ℕ) (ts : Kinds) → depth ≡ 0 → (readers names depth).declarator ts ≡ None
 unfolding readers
@@ -37,10 +15,6 @@ declarator_zero names depth ts is = ap (λ d. (readers names d).declarator ts) i
 pub type_word_zero : (names : List (List ℕ)) (depth : ℕ) (ts : Kinds) → depth ≡ 0 → (readers names depth).type_word ts ≡ None
 unfolding readers
 type_word_zero names depth ts is = ap (λ d. (readers names d).type_word ts) is
-
-pub abstract_some : (names : List (List ℕ)) (depth : ℕ) (ts : Kinds) → 0 < depth → (readers names depth).abstract ts ≡ reader.abstract names (below names depth) (depth - 1) ts
-unfolding readers below
-abstract_some names depth ts = some_depth (λ d. (readers names d).abstract ts ≡ reader.abstract names (below names d) (d - 1) ts) (λ d. ap (λ n. reader.abstract names (readers names d) n ts) (less_one d)) depth
 
 pub declarator_some : (names : List (List ℕ)) (depth : ℕ) (ts : Kinds) → 0 < depth → (readers names depth).declarator ts ≡ reader.declarator names (below names depth) (depth - 1) ts
 unfolding readers below

@@ -14,7 +14,7 @@ use Rattle.c_tree.specs.Marks.{Kinds, wrapped, unary_mark}
 use Rattle.c_tree.specs.Grammar.{SpecReads, TypeWordReads, ExprReads, ExprForm}
 use Rattle.c_expr.specs.FirstTokens.{Begins, mark_begins_expression, word_begins_spec, CanBeginExpression, CanBeginSpec}
 use Rattle.c_expr.specs.inner.FirstTokensLemmas.{Begins-append, Begins-same}
-use Rattle.c_declarators.specs.inner.Readers.{begins_spec, kind_begins_spec}
+use Rattle.c_readers.specs.inner.Readers.{begins_spec, kind_begins_spec}
 use Rattle.c_expr.proofs.TypeNames.{free_is_no_type_name, contains_type_name}
 
 pub Begins-some : (P : Kind → Type 0) (ts : Kinds) → Begins P ts → ts ≢ []

@@ -3,9 +3,9 @@ use Rattle.std.proofs.Common.{◌≡◌, ℕ, suc, Bool, true, false, if◌then�
 use Rattle.c_tokens.specs.declared.token.Mark.TheVariants as mark
 use Rattle.c_tree.specs.Marks.{Kinds, greatest_pairs, assign_level}
 use Rattle.c_tree.specs.declared.expression.Expr.{Expr}
-use Rattle.c_declarators.specs.declared.operand.Operand.{Operand}
-use Rattle.c_declarators.specs.inner.Parser.{Outcome, Parser, WithHeight, and_then, ◌>>◌, pure, mismatch, expect}
-use Rattle.c_declarators.specs.inner.Readers.{Readers, grow, close, bracketed}
+use Rattle.c_readers.specs.declared.operand.Operand.{Operand}
+use Rattle.c_readers.specs.inner.Parser.{Outcome, Parser, WithHeight, and_then, ◌>>◌, pure, mismatch, expect}
+use Rattle.c_readers.specs.inner.Readers.{Readers, grow, close, bracketed}
 use Rattle.c_expr.specs.inner.Pairs.{in_pair}
 
 module _ (more : Operand → Parser (WithHeight Expr)) (o : Operand) where

@@ -1,9 +1,9 @@
 -- The reader of expressions of a depth, by the readers of the depth below.
 use Rattle.std.proofs.Common.{◌≡◌, ℕ, zero, suc, ◌-◌, ◌<◌, List, None, ap, arith}
 use Rattle.c_tree.specs.Marks.{Kinds}
-use Rattle.c_declarators.specs.inner.Nests.{below}
-use Rattle.c_declarators.specs.inner.Readers as reader
-use Rattle.c_declarators.specs.inner.Readers.{readers}
+use Rattle.c_readers.specs.inner.Nests.{below}
+use Rattle.c_readers.specs.inner.Readers as reader
+use Rattle.c_readers.specs.inner.Readers.{readers}
 
 pub zero_expr : (names : List (List ℕ)) (depth least : ℕ) (ts : Kinds) → depth ≡ 0 → (readers names depth).expr least ts ≡ None
 unfolding readers

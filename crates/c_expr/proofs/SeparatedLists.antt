@@ -3,9 +3,9 @@ use Rattle.std.proofs.Common.{◌≡◌, ◌≢◌, ℕ, zero, suc, ◌<◌, ◌
 use Rattle.c_tokens.specs.declared.token.Kind.TheVariants.{Mark}
 use Rattle.c_tokens.specs.declared.token.Mark.TheVariants as mark
 use Rattle.c_tree.specs.Marks.{Kinds}
-use Rattle.c_declarators.specs.inner.Parser.{Parser, WithHeight, separated_from, separated}
+use Rattle.c_readers.specs.inner.Parser.{Parser, WithHeight, separated_from, separated}
 use Rattle.c_expr.specs.Theorems.{ReadsOnly, Takes, Lacks}
-use Rattle.c_declarators.specs.inner.ParserLemmas.{sees_is, after_is, after_other, Found, eaten, found_all, found_more, found_then, join}
+use Rattle.c_readers.specs.inner.ParserLemmas.{sees_is, after_is, after_other, Found, eaten, found_all, found_more, found_then, join}
 use Rattle.c_expr.proofs.soundness.Chains.{pure_parts, tree_answer}
 
 -- at least one item, with commas between; the height is the greatest of theirs

@@ -6,7 +6,7 @@ use Rattle.std.proofs.lemmas.List.Elements.{Contains-push, Contains-append_left,
 use Rattle.std.proofs.lemmas.Slice.Eq.{bytes_eq-Decides}
 use Rattle.std.proofs.lemmas.Bool.{false≢true}
 use Rattle.c_tree.specs.Grammar.{IsFree}
-use Rattle.c_declarators.specs.inner.Readers.{is_type_name}
+use Rattle.c_readers.specs.inner.Readers.{is_type_name}
 
 none_contains : (x : List ℕ) → Contains [] x → ⊥
 none_contains x h = let below = h.1 in omega arith

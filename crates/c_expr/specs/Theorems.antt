@@ -12,11 +12,11 @@ use Rattle.c_tree.specs.declared.expression.Spec.{Spec}
 use Rattle.c_tree.specs.declared.expression.TypeWord.{TypeWord}
 use Rattle.c_tree.specs.Marks.{Kinds, primary_level}
 use Rattle.c_tree.specs.Grammar.{SpecReads, DeclaratorReads, DirectReads, AbstractReads, ParamsRead, TypeWordReads, ExprReads}
-use Rattle.c_declarators.specs.declared.brackets.Bracketed.{Bracketed}
-use Rattle.c_declarators.specs.declared.operand.Continuation.{Continuation}
+use Rattle.c_readers.specs.declared.brackets.Bracketed.{Bracketed}
+use Rattle.c_readers.specs.declared.operand.Continuation.{Continuation}
 use Rattle.c_expr.specs.FirstTokens.{Begins, CanBeginExpression, CanBeginSpec, CanBeginDeclarator}
-use Rattle.c_declarators.specs.inner.Parser.{Parser, WithHeight, sees}
-use Rattle.c_declarators.specs.inner.Readers.{Readers, readers, continuation, whole_level, begins_spec, direct_of}
+use Rattle.c_readers.specs.inner.Parser.{Parser, WithHeight, sees}
+use Rattle.c_readers.specs.inner.Readers.{Readers, readers, continuation, whole_level, begins_spec, direct_of}
 
 -- ---- what the readers answer is of the grammar
 

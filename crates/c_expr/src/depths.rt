@@ -1,11 +1,12 @@
 //! The functions that read at each depth, by the rules of that depth.
 
 ghost use Rattle.std.specs.Prelude.{◌≡◌, ◌≤◌, ◌<◌, ◌^◌, true, IfOk};
-ghost use Rattle.c_declarators.specs.inner.Readers.{readers};
-ghost use Rattle.c_declarators.specs.inner.Reads.{Reads};
+ghost use Rattle.c_readers.specs.inner.Readers.{readers};
+ghost use Rattle.c_readers.specs.inner.Reads.{Reads};
 
 use crate::expressions::Expressions;
-use c_declarators::{Cursor, Failure, Grammar, Names};
+use c_declarators::Declarators;
+use c_readers::{Cursor, Failure, Grammar, Names};
 use c_tree::{Declarator, Expr, Params, Spec};
 use sqlite_items::Boxed;
 use std::alloc::Global;
@@ -64,14 +65,14 @@ pub fn params(
     ensures reads { Reads ((readers names.now depth).params tokens.old) result tokens.new }
     ensures height { IfOk result (λ p. p.1 ≤ depth) }
 {
-    Grammar {
+    let grammar = Grammar {
         alloc,
         names,
         depth,
         expr: boxed_expr,
         params,
-    }
-    .parameters(tokens)
+    };
+    Declarators { grammar }.parameters(tokens)
 }
 
 /// What stands in front of a declarator. Structs in it may have bodies.
@@ -85,14 +86,14 @@ pub fn spec(
     ensures reads { Reads ((readers names.now depth).spec true tokens.old) result tokens.new }
     ensures height { IfOk result (λ s. s.1 ≤ depth) }
 {
-    let rules = Grammar {
+    let grammar = Grammar {
         alloc,
         names,
         depth,
         expr: boxed_expr,
         params,
     };
-    let (spec, height) = rules.spec(tokens, true)?;
+    let (spec, height) = Declarators { grammar }.spec(tokens, true)?;
     Ok((spec.into_inner(), height))
 }
 
@@ -107,13 +108,13 @@ pub fn declarator(
     ensures reads { Reads ((readers names.now depth).declarator tokens.old) result tokens.new }
     ensures height { IfOk result (λ d. d.1 ≤ depth) }
 {
-    let rules = Grammar {
+    let grammar = Grammar {
         alloc,
         names,
         depth,
         expr: boxed_expr,
         params,
     };
-    let (declarator, height) = rules.declarator(tokens)?;
+    let (declarator, height) = Declarators { grammar }.declarator(tokens)?;
     Ok((declarator.into_inner(), height))
 }

@@ -5,7 +5,7 @@ ghost use Rattle.c_tree.specs.Marks.{kinds_of};
 ghost use Rattle.c_expr.specs.LongestExpression.{IsLongestExpression, BeginsNoExpression};
 
 use crate::depths::expr;
-use c_declarators::{ASSIGN_LEVEL, Cursor, Failure, Names};
+use c_readers::{ASSIGN_LEVEL, Cursor, Failure, Names};
 use c_tokens::Tokens;
 use c_tree::{Expr, TypeNames};
 use c_types::copy_name;

@@ -4,8 +4,8 @@ use Rattle.c_tokens.specs.declared.token.Keyword.{Keyword}
 use Rattle.c_tokens.specs.declared.token.Kind.TheVariants.{Word, Name, Number, Text, Mark}
 use Rattle.c_tokens.specs.declared.token.Mark.{Mark as MarkName}
 use Rattle.c_tree.specs.Marks.{Kinds}
-use Rattle.c_declarators.specs.inner.Parser.{Parser, Outcome, WithHeight, and_then, sees, behind, after, expect}
-use Rattle.c_declarators.specs.inner.ParserLemmas.{same_word_true, sees_is, after_is, after_other, expect_is, both_answer, same_word_is}
+use Rattle.c_readers.specs.inner.Parser.{Parser, Outcome, WithHeight, and_then, sees, behind, after, expect}
+use Rattle.c_readers.specs.inner.ParserLemmas.{same_word_true, sees_is, after_is, after_other, expect_is, both_answer, same_word_is}
 use Rattle.c_parser.specs.inner.Readers.{sees_word, after_word, expect_word}
 
 -- an answer of two readers, of which the first reads trees, is one of the first, and of the second behind it

@@ -4,8 +4,8 @@ use Rattle.c_tokens.specs.declared.token.Mark.TheVariants as mark
 use Rattle.c_tree.specs.declared.statement.Init.{Init}
 use Rattle.c_tree.specs.declared.statement.Init.TheVariants as init_as
 use Rattle.c_tree.specs.Marks.{Kinds, assign_level}
-use Rattle.c_declarators.specs.inner.Parser.{Outcome, WithHeight, and_then, pure, sees, after}
-use Rattle.c_declarators.specs.inner.Readers.{readers}
+use Rattle.c_readers.specs.inner.Parser.{Outcome, WithHeight, and_then, pure, sees, after}
+use Rattle.c_readers.specs.inner.Readers.{readers}
 use Rattle.c_parser.specs.inner.Readers.{stmt, stmt_over, of_depth, init, init_over, braces, inits_from}
 
 -- initialisers in braces are one

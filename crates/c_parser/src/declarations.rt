@@ -1,12 +1,12 @@
 //! Initialisers and declarations.
 
 ghost use Rattle.std.specs.Prelude.{◌≡◌, ◌≤◌, ◌<◌, ◌^◌, IfOk};
-ghost use Rattle.c_declarators.specs.inner.Readers.{readers};
-ghost use Rattle.c_declarators.specs.inner.Reads.{Reads};
+ghost use Rattle.c_readers.specs.inner.Readers.{readers};
+ghost use Rattle.c_readers.specs.inner.Reads.{Reads};
 ghost use Rattle.c_parser.specs.inner.Readers as reader;
 
-use c_declarators::{Cursor, Failure, Names, begins_spec};
 use c_expr::{declarator, expr, spec};
+use c_readers::{Cursor, Failure, Names, begins_spec};
 use c_tokens::Mark;
 use c_tree::{Decl, Declarator, ForInit, FullExpr, Init, InitDeclarator, Spec};
 use sqlite_items::{Boxed, Items};

@@ -1,11 +1,11 @@
 //! Statements and blocks of each depth, by the rules of the depth below.
 
 ghost use Rattle.std.specs.Prelude.{◌≡◌, ◌≤◌, ◌<◌, ◌^◌, IfOk};
-ghost use Rattle.c_declarators.specs.inner.Reads.{Reads};
+ghost use Rattle.c_readers.specs.inner.Reads.{Reads};
 ghost use Rattle.c_parser.specs.inner.Readers as reader;
 
 use crate::statements::Rules;
-use c_declarators::{Cursor, Failure, Names};
+use c_readers::{Cursor, Failure, Names};
 use c_tree::{Block, Stmt};
 use std::alloc::Global;
 

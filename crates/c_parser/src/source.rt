@@ -10,8 +10,8 @@ ghost use Rattle.c_parser.specs.inner.Readers as reader;
 
 use crate::error::ParseRefusal;
 use crate::items::item;
-use c_declarators::{Cursor, Failure, Names};
 use c_expr::expression_laws;
+use c_readers::{Cursor, Failure, Names};
 use c_tokens::Tokens;
 use c_tree::{Item, Unit, declarators_declare_their_names};
 use c_types::{Name, copy_name};

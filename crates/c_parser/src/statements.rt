@@ -2,8 +2,8 @@
 //! proved by itself.
 
 ghost use Rattle.std.specs.Prelude.{◌≡◌, ◌≤◌, ◌<◌, ◌+◌, ◌^◌, IfOk};
-ghost use Rattle.c_declarators.specs.inner.Readers.{readers};
-ghost use Rattle.c_declarators.specs.inner.Reads.{Reads};
+ghost use Rattle.c_readers.specs.inner.Readers.{readers};
+ghost use Rattle.c_readers.specs.inner.Reads.{Reads};
 ghost use Rattle.c_parser.specs.inner.Nests.{Nests};
 ghost use Rattle.c_parser.specs.inner.Readers as reader;
 ghost use Rattle.c_parser.specs.inner.Readers.{of_depth};
@@ -11,7 +11,7 @@ ghost use Rattle.c_parser.specs.inner.Readers.{of_depth};
 use crate::declarations::{condition, decl, for_init, for_tests, option_to};
 use crate::form::{Form, form_of};
 use crate::words::{eat_word, expect_word};
-use c_declarators::{Cursor, Failure, Names, begins_spec};
+use c_readers::{Cursor, Failure, Names, begins_spec};
 use c_tokens::{Keyword, Kind, Mark};
 use c_tree::{Block, BlockItem, ForLoop, FullExpr, Stmt};
 use sqlite_items::{Boxed, Items};

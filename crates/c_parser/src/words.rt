@@ -1,14 +1,14 @@
 //! Words ahead.
 
 ghost use Rattle.std.specs.Prelude.{◌≡◌};
-ghost use Rattle.c_declarators.specs.inner.Reads.{Reads};
+ghost use Rattle.c_readers.specs.inner.Reads.{Reads};
 ghost use Rattle.c_parser.specs.inner.Readers as reader;
 
-use c_declarators::{Cursor, Failure};
+use c_readers::{Cursor, Failure};
 use c_tokens::{Keyword, Kind};
 
 /// Whether this word comes next.
-#[tactic(auto, unfolding(c_declarators::specs::inner::Parser::same_word))]
+#[tactic(auto, unfolding(c_readers::specs::inner::Parser::same_word))]
 fn sees_word(tokens: &Cursor<'_>, word: Keyword) -> bool
     ensures { result ≡ reader.sees_word word tokens.now }
 {

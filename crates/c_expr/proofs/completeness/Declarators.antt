@@ -10,10 +10,10 @@ use Rattle.c_tree.specs.declared.expression.Suffix.{Suffix}
 use Rattle.c_tree.specs.Marks.{Kinds, wrapped, greatest_pairs}
 use Rattle.c_tree.specs.Trees.{declarator as declarator_of}
 use Rattle.c_tree.specs.Grammar.{IsFree, HasParts, star_kinds, DeclaratorReads, DeclaratorForm, DirectReads, SuffixesRead}
-use Rattle.c_declarators.specs.declared.brackets.Core.TheVariants as core_as
-use Rattle.c_declarators.specs.declared.brackets.Bracketed.{Bracketed}
-use Rattle.c_declarators.specs.inner.Parser.{Outcome, same_mark, expect}
-use Rattle.c_declarators.specs.inner.Readers.{Readers, is_none, begins_spec, opened, free_name, named, finished, closed, direct_in, direct, declarator, direct_of, whole_of, formed, in_brackets}
+use Rattle.c_readers.specs.declared.brackets.Core.TheVariants as core_as
+use Rattle.c_readers.specs.declared.brackets.Bracketed.{Bracketed}
+use Rattle.c_readers.specs.inner.Parser.{Outcome, same_mark, expect}
+use Rattle.c_readers.specs.inner.Readers.{Readers, is_none, begins_spec, opened, free_name, named, finished, closed, direct_in, direct, declarator, direct_of, whole_of, formed, in_brackets}
 use Rattle.c_expr.specs.Theorems.{Takes, Lacks, Closes, LacksSuffix, AreComplete}
 use Rattle.c_expr.specs.inner.FirstTokensLemmas.{Begins-append}
 use Rattle.c_expr.proofs.TypeNames.{free_is_no_type_name}

@@ -10,8 +10,8 @@ use Rattle.c_tree.specs.declared.expression.Direct.{Direct}
 use Rattle.c_tree.specs.declared.expression.Suffix.{Suffix}
 use Rattle.c_tree.specs.Marks.{Kinds, wrapped}
 use Rattle.c_tree.specs.Grammar.{IsFree, star_kinds, DeclaratorReads, DeclaratorForm, DirectReads, SuffixesRead, SuffixReads, AbstractReads, AbstractForm}
-use Rattle.c_declarators.specs.inner.Parser.{same_mark}
-use Rattle.c_declarators.specs.inner.Readers.{begins_spec, looks_named}
+use Rattle.c_readers.specs.inner.Parser.{same_mark}
+use Rattle.c_readers.specs.inner.Readers.{begins_spec, looks_named}
 use Rattle.c_expr.specs.Theorems.{Lacks}
 use Rattle.c_expr.specs.FirstTokens.{Begins, CanBeginDeclarator}
 use Rattle.c_expr.specs.inner.FirstTokensLemmas.{Begins-append, Begins-same, OpensNothing}

@@ -6,8 +6,8 @@ use Rattle.c_tree.specs.declared.expression.Expr.{Expr}
 use Rattle.c_tree.specs.declared.expression.TypeWord.{TypeWord}
 use Rattle.c_tree.specs.Marks.{Kinds, primary_level}
 use Rattle.c_tree.specs.Grammar.{DeclaratorReads, AbstractReads, TypeWordReads, ExprReads, ExprForm}
-use Rattle.c_declarators.specs.inner.Parser.{mismatch}
-use Rattle.c_declarators.specs.inner.Readers.{Readers, readers, nothing, level, type_word, spec, declarator, direct, abstract, params}
+use Rattle.c_readers.specs.inner.Parser.{mismatch}
+use Rattle.c_readers.specs.inner.Readers.{Readers, readers, nothing, level, type_word, spec, declarator, direct, abstract, params}
 use Rattle.c_expr.specs.Theorems.{Takes, Stops, AreComplete, ReadersAreComplete}
 use Rattle.c_expr.proofs.completeness.TypeWords.{type_word_takes, abstract_takes}
 use Rattle.c_expr.proofs.completeness.Declarators.{direct_takes, direct_takes_name, declarator_takes}

@@ -7,13 +7,13 @@ use Rattle.c_tree.specs.declared.expression.Expr.{Expr}
 use Rattle.c_tree.specs.declared.expression.Expr.TheVariants as tree
 use Rattle.c_tree.specs.Marks.{Kinds, greatest_pairs, wrapped, assign_mark, binary_mark, assign_level, conditional_level, cast_level, unary_level, primary_level, binary_level}
 use Rattle.c_tree.specs.Grammar.{ExprReads, ExprForm}
-use Rattle.c_declarators.specs.declared.operand.Continuation.{Continuation}
-use Rattle.c_declarators.specs.declared.operand.Continuation.TheVariants as goes
-use Rattle.c_declarators.specs.declared.operand.Operand.{Operand}
-use Rattle.c_declarators.specs.declared.operand.Part.{Part}
-use Rattle.c_declarators.specs.declared.operand.Part.TheVariants as part_as
-use Rattle.c_declarators.specs.inner.Parser.{WithHeight}
-use Rattle.c_declarators.specs.inner.Readers.{Readers, continuation, whole_level, left_level, part_level, with_part, extended, bracketed, operand, part, close, level_in, level as level_reader}
+use Rattle.c_readers.specs.declared.operand.Continuation.{Continuation}
+use Rattle.c_readers.specs.declared.operand.Continuation.TheVariants as goes
+use Rattle.c_readers.specs.declared.operand.Operand.{Operand}
+use Rattle.c_readers.specs.declared.operand.Part.{Part}
+use Rattle.c_readers.specs.declared.operand.Part.TheVariants as part_as
+use Rattle.c_readers.specs.inner.Parser.{WithHeight}
+use Rattle.c_readers.specs.inner.Readers.{Readers, continuation, whole_level, left_level, part_level, with_part, extended, bracketed, operand, part, close, level_in, level as level_reader}
 use Rattle.c_expr.specs.Theorems.{AreComplete, Takes, Stops}
 use Rattle.c_expr.specs.FirstTokens.{Begins, CanBeginExpression}
 use Rattle.c_expr.specs.inner.FirstTokensLemmas.{Begins-append}

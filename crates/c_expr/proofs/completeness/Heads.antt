@@ -10,11 +10,11 @@ use Rattle.c_tree.specs.declared.expression.Expr.TheVariants as e
 use Rattle.c_tree.specs.declared.expression.TypeWord.{TypeWord}
 use Rattle.c_tree.specs.Marks.{Kinds, wrapped, unary_mark, cast_level, unary_level}
 use Rattle.c_tree.specs.Grammar.{IsFree, ExprReads, ExprForm, TypeWordReads}
-use Rattle.c_declarators.specs.declared.operand.Operand.{Operand}
-use Rattle.c_declarators.specs.inner.Parser.{same_mark}
-use Rattle.c_declarators.specs.inner.Readers.{Readers, head, prefixed, cast, sizeof, unary_behind, operand, leaf, opens_type, begins_spec, close, level_in}
+use Rattle.c_readers.specs.declared.operand.Operand.{Operand}
+use Rattle.c_readers.specs.inner.Parser.{same_mark}
+use Rattle.c_readers.specs.inner.Readers.{Readers, head, prefixed, cast, sizeof, unary_behind, operand, leaf, opens_type, begins_spec, close, level_in}
 use Rattle.c_expr.specs.Theorems.{AreComplete}
-use Rattle.c_declarators.specs.inner.ParserLemmas.{expect_is, same_mark_is}
+use Rattle.c_readers.specs.inner.ParserLemmas.{expect_is, same_mark_is}
 use Rattle.c_expr.proofs.TypeNames.{free_is_no_type_name}
 use Rattle.c_expr.specs.FirstTokens.{Begins, CanBeginExpression}
 use Rattle.c_expr.specs.inner.FirstTokensLemmas.{Begins-append}

@@ -5,12 +5,12 @@ use Rattle.c_tokens.specs.declared.token.Token.{Token}
 use Rattle.c_tree.specs.declared.expression.Expr.{Expr}
 use Rattle.c_tree.specs.Marks.{Kinds, kinds_of}
 use Rattle.c_tree.specs.Grammar.{ExprReads}
-use Rattle.c_declarators.specs.inner.Parser.{Outcome, WithHeight}
-use Rattle.c_declarators.specs.inner.Readers.{readers}
+use Rattle.c_readers.specs.inner.Parser.{Outcome, WithHeight}
+use Rattle.c_readers.specs.inner.Readers.{readers}
 use Rattle.c_expr.specs.Theorems.{ReadersAreSound, ReadersReadLongest}
 use Rattle.c_expr.specs.LongestExpression.{IsLongestExpression, BeginsNoExpression}
 use Rattle.c_expr.proofs.FormsBegin.{ExprReads-some}
-use Rattle.c_declarators.specs.inner.ParserLemmas.{found_both}
+use Rattle.c_readers.specs.inner.ParserLemmas.{found_both}
 
 -- by other words for the names and the tokens
 pub read_by : {known names : List (List ℕ)} (depth : ℕ) {ts us : Kinds} (answer : Outcome (WithHeight Expr)) → known ≡ names → ts ≡ us → (readers known depth).expr 0 ts ≡ answer → (readers names depth).expr 0 us ≡ answer

@@ -7,14 +7,14 @@ use Rattle.c_tokens.specs.declared.token.Mark.TheVariants as mark
 use Rattle.c_tree.specs.declared.operator.BinaryOperator.{BinaryOperator}
 use Rattle.c_tree.specs.declared.operator.BinaryOperator.TheVariants as binary
 use Rattle.c_tree.specs.Marks.{Kinds, greatest_pairs, assign_level, binary_level}
-use Rattle.c_declarators.specs.declared.operand.Continuation.{Continuation}
-use Rattle.c_declarators.specs.declared.operand.Continuation.TheVariants as goes
-use Rattle.c_declarators.specs.declared.operand.Operand.{Operand}
-use Rattle.c_declarators.specs.declared.operand.Part.{Part}
-use Rattle.c_declarators.specs.inner.Parser.{Parser, Outcome, WithHeight, and_then, is_mark, behind}
-use Rattle.c_declarators.specs.inner.Readers.{Readers, continuation, whole_level, left_level, takes, taken, going_on, extended, bracketed, part, grown_by, grown_with, grow_from, grow, close, head, level_in, opened, begins_spec}
+use Rattle.c_readers.specs.declared.operand.Continuation.{Continuation}
+use Rattle.c_readers.specs.declared.operand.Continuation.TheVariants as goes
+use Rattle.c_readers.specs.declared.operand.Operand.{Operand}
+use Rattle.c_readers.specs.declared.operand.Part.{Part}
+use Rattle.c_readers.specs.inner.Parser.{Parser, Outcome, WithHeight, and_then, is_mark, behind}
+use Rattle.c_readers.specs.inner.Readers.{Readers, continuation, whole_level, left_level, takes, taken, going_on, extended, bracketed, part, grown_by, grown_with, grow_from, grow, close, head, level_in, opened, begins_spec}
 use Rattle.c_expr.specs.Theorems.{Stops}
-use Rattle.c_declarators.specs.inner.ParserLemmas.{expect_is, same_mark_is}
+use Rattle.c_readers.specs.inner.ParserLemmas.{expect_is, same_mark_is}
 
 -- a part gives back no more tokens than it got
 abbrev pub PartShrinks : List (List ℕ) → Readers → Type 0

@@ -9,12 +9,12 @@ use Rattle.c_tree.specs.declared.operator.BinaryOperator.TheVariants as binary
 use Rattle.c_tree.specs.declared.expression.Expr.{Expr}
 use Rattle.c_tree.specs.Marks.{Kinds, assign_mark, binary_mark, assign_level, conditional_level, binary_level}
 use Rattle.c_tree.specs.Grammar.{IsFree, ExprReads, ArgumentsRead, ArgumentListReads}
-use Rattle.c_declarators.specs.declared.operand.Continuation.TheVariants as goes
-use Rattle.c_declarators.specs.declared.operand.Part.TheVariants as part_as
-use Rattle.c_declarators.specs.inner.Parser.{same_mark}
-use Rattle.c_declarators.specs.inner.Readers.{Readers, continuation, part, arguments, index, arms, free_name}
+use Rattle.c_readers.specs.declared.operand.Continuation.TheVariants as goes
+use Rattle.c_readers.specs.declared.operand.Part.TheVariants as part_as
+use Rattle.c_readers.specs.inner.Parser.{same_mark}
+use Rattle.c_readers.specs.inner.Readers.{Readers, continuation, part, arguments, index, arms, free_name}
 use Rattle.c_expr.specs.Theorems.{AreComplete, Stops}
-use Rattle.c_declarators.specs.inner.ParserLemmas.{sees_is, after_is, after_other, expect_is}
+use Rattle.c_readers.specs.inner.ParserLemmas.{sees_is, after_is, after_other, expect_is}
 use Rattle.c_expr.proofs.TypeNames.{free_is_no_type_name}
 use Rattle.c_expr.specs.FirstTokens.{Begins, CanBeginExpression}
 use Rattle.c_expr.specs.inner.FirstTokensLemmas.{Begins-append, Begins-same, expression_lacks, stops_at}

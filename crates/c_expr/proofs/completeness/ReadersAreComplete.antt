@@ -1,5 +1,5 @@
 -- The readers are the grammar, at every depth.
-use Rattle.c_declarators.specs.inner.Readers.{readers}
+use Rattle.c_readers.specs.inner.Readers.{readers}
 use Rattle.c_expr.specs.Theorems.{ReadersAreComplete, ReadersReadLongest, ExpressionsHaveOneTree}
 use Rattle.c_expr.proofs.completeness.ReadersReadLongest as longest
 use Rattle.c_expr.proofs.soundness.PartsFit.{part_shrinks}

@@ -5,14 +5,14 @@ use Rattle.c_tokens.specs.declared.token.Kind.{Kind}
 use Rattle.c_tree.specs.declared.expression.Expr.{Expr}
 use Rattle.c_tree.specs.Marks.{Kinds, primary_level}
 use Rattle.c_tree.specs.Grammar.{ExprReads}
-use Rattle.c_declarators.specs.declared.operand.Continuation.{Continuation}
-use Rattle.c_declarators.specs.declared.operand.Operand.{Operand}
-use Rattle.c_declarators.specs.declared.operand.Part.{Part}
-use Rattle.c_declarators.specs.inner.Parser.{Parser, Outcome, WithHeight}
-use Rattle.c_declarators.specs.inner.Readers.{Readers, readers, continuation, whole_level, takes, taken, going_on, extended, operand, part, grown_by, grown_with, grow_from, grow, close, level}
+use Rattle.c_readers.specs.declared.operand.Continuation.{Continuation}
+use Rattle.c_readers.specs.declared.operand.Operand.{Operand}
+use Rattle.c_readers.specs.declared.operand.Part.{Part}
+use Rattle.c_readers.specs.inner.Parser.{Parser, Outcome, WithHeight}
+use Rattle.c_readers.specs.inner.Readers.{Readers, readers, continuation, whole_level, takes, taken, going_on, extended, operand, part, grown_by, grown_with, grow_from, grow, close, level}
 use Rattle.c_expr.specs.Theorems.{AreComplete, AreSound, Stops, ReadersAreComplete, ReadersAreSound, ReadersReadLongest, ExpressionsHaveOneTree}
 use Rattle.c_expr.proofs.FormsBegin.{ExprForm-begins}
-use Rattle.c_declarators.specs.inner.ParserLemmas.{found_both}
+use Rattle.c_readers.specs.inner.ParserLemmas.{found_both}
 use Rattle.c_expr.proofs.soundness.PartsFit.{part_fits, part_shrinks}
 use Rattle.c_expr.proofs.completeness.Heads.{Leads}
 use Rattle.c_expr.proofs.completeness.Expressions.{FormEnds, form_ends, bracketed_led}

@@ -12,8 +12,8 @@ use Rattle.c_tree.specs.declared.expression.Params.{Params}
 use Rattle.c_tree.specs.declared.expression.Spec.{Spec}
 use Rattle.c_tree.specs.Marks.{Kinds}
 use Rattle.c_tree.specs.Grammar.{SpecReads, MembersRead, DeclaratorsRead, DeclaratorReads, AbstractReads, ParamsRead, ParamListReads, ParamReads}
-use Rattle.c_declarators.specs.inner.Parser.{Parser, WithHeight, Outcome, same_mark, same_word, sees, after, expect}
-use Rattle.c_declarators.specs.inner.Readers.{Readers, free_name, member, members, members_from, struct_body, struct, spec, param, params, is_void_alone}
+use Rattle.c_readers.specs.inner.Parser.{Parser, WithHeight, Outcome, same_mark, same_word, sees, after, expect}
+use Rattle.c_readers.specs.inner.Readers.{Readers, free_name, member, members, members_from, struct_body, struct, spec, param, params, is_void_alone}
 use Rattle.c_expr.specs.Theorems.{Takes, Lacks, Closes, ClosesParenthesis, LacksSuffix, AreComplete}
 use Rattle.c_expr.specs.FirstTokens.{Begins, CanBeginSpec, CanBeginDeclarator}
 use Rattle.c_expr.specs.inner.FirstTokensLemmas.{Begins-append, Begins-same, declarator_lacks, brace_opens_nothing, spec_lacks}

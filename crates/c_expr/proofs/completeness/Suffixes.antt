@@ -7,12 +7,12 @@ use Rattle.c_tokens.specs.declared.token.Mark.TheVariants as mark
 use Rattle.c_tree.specs.declared.expression.Suffix.{Suffix}
 use Rattle.c_tree.specs.Marks.{Kinds, conditional_level}
 use Rattle.c_tree.specs.Grammar.{star_kinds, SuffixesRead, SuffixReads}
-use Rattle.c_declarators.specs.inner.Parser.{same_mark, sees, after, expect, run}
-use Rattle.c_declarators.specs.inner.Readers.{Readers, continuation, bound, suffix, suffixes, suffixes_from}
+use Rattle.c_readers.specs.inner.Parser.{same_mark, sees, after, expect, run}
+use Rattle.c_readers.specs.inner.Readers.{Readers, continuation, bound, suffix, suffixes, suffixes_from}
 use Rattle.c_expr.specs.Theorems.{Lacks, Closes, LacksSuffix, Stops, AreComplete}
 use Rattle.c_expr.specs.FirstTokens.{Begins, CanBeginExpression}
 use Rattle.c_expr.proofs.FormsBegin.{ExprReads-begins}
-use Rattle.c_declarators.specs.inner.ParserLemmas.{found_then}
+use Rattle.c_readers.specs.inner.ParserLemmas.{found_then}
 use Rattle.c_expr.specs.inner.FirstTokensLemmas.{expression_lacks}
 
 pub no_continuation : (least : ℕ) (ts : Kinds) → continuation ts ≡ None → Stops least ts

@@ -10,8 +10,8 @@ use Rattle.c_tree.specs.declared.expression.TypeWord.{TypeWord}
 use Rattle.c_tree.specs.Marks.{Kinds, wrapped}
 use Rattle.c_tree.specs.Trees.{abstract as abstract_of}
 use Rattle.c_tree.specs.Grammar.{HasParts, star_kinds, SuffixesRead, SuffixReads, ParamsRead, AbstractReads, AbstractForm, TypeWordReads}
-use Rattle.c_declarators.specs.inner.Parser.{same_mark, sees, behind, expect}
-use Rattle.c_declarators.specs.inner.Readers.{Readers, suffixes, nested_abstract, abstract_behind, starred, with_suffixes, bracketed_abstract, abstract, type_word, is_none}
+use Rattle.c_readers.specs.inner.Parser.{same_mark, sees, behind, expect}
+use Rattle.c_readers.specs.inner.Readers.{Readers, suffixes, nested_abstract, abstract_behind, starred, with_suffixes, bracketed_abstract, abstract, type_word, is_none}
 use Rattle.c_expr.specs.Theorems.{Takes, Lacks, Closes, ClosesParenthesis, AreComplete}
 use Rattle.c_expr.specs.FirstTokens.{CanBeginSpec}
 use Rattle.c_expr.proofs.completeness.NamedParametersAreToldApart.{ParamListReads-begins}

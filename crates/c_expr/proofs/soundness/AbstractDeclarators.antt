@@ -9,11 +9,11 @@ use Rattle.c_tree.specs.declared.expression.AbstractDeclarator.{AbstractDeclarat
 use Rattle.c_tree.specs.declared.expression.Suffix.{Suffix}
 use Rattle.c_tree.specs.Marks.{Kinds, wrapped, conditional_level}
 use Rattle.c_tree.specs.Grammar.{star_kinds, SuffixesRead, SuffixReads, AbstractReads, AbstractForm}
-use Rattle.c_declarators.specs.inner.Parser.{same_mark, sees, behind, run}
-use Rattle.c_declarators.specs.inner.Readers.{Readers, bound, suffix, opens_suffix, suffixes_from, suffixes, opens_abstract, nested_abstract, abstract_behind, starred, is_none, bracketed_abstract, abstract}
+use Rattle.c_readers.specs.inner.Parser.{same_mark, sees, behind, run}
+use Rattle.c_readers.specs.inner.Readers.{Readers, bound, suffix, opens_suffix, suffixes_from, suffixes, opens_abstract, nested_abstract, abstract_behind, starred, is_none, bracketed_abstract, abstract}
 use Rattle.c_expr.specs.Theorems.{ReadsOnly, AreSound}
 use Rattle.c_expr.proofs.soundness.Chains.{both_true, tree_answer, run_some, pure_answer, pure_holds, push, run_split, max_low, zero_low, above_low}
-use Rattle.c_declarators.specs.inner.ParserLemmas.{both_answer, mark_answer, tested, tested_at, eaten, ReadsPrefix, join, Found, found_all, found_more}
+use Rattle.c_readers.specs.inner.ParserLemmas.{both_answer, mark_answer, tested, tested_at, eaten, ReadsPrefix, join, Found, found_all, found_more}
 
 -- ---- suffixes
 

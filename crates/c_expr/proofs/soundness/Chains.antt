@@ -5,10 +5,10 @@ use Rattle.c_tokens.specs.declared.token.Kind.TheVariants.{Mark}
 use Rattle.c_tokens.specs.declared.token.Mark.{Mark as MarkName}
 use Rattle.c_tokens.specs.declared.token.Mark.TheVariants as mark
 use Rattle.c_tree.specs.Marks.{Kinds}
-use Rattle.c_declarators.specs.inner.Parser.{is_mark, run, Parser, WithHeight, and_then, pure, sees}
-use Rattle.c_declarators.specs.inner.Readers.{begins_spec, opened}
+use Rattle.c_readers.specs.inner.Parser.{is_mark, run, Parser, WithHeight, and_then, pure, sees}
+use Rattle.c_readers.specs.inner.Readers.{begins_spec, opened}
 use Rattle.c_expr.specs.Theorems.{ReadsOnly}
-use Rattle.c_declarators.specs.inner.ParserLemmas.{sees_true, found_both, ReadsPrefix, both_answer}
+use Rattle.c_readers.specs.inner.ParserLemmas.{sees_true, found_both, ReadsPrefix, both_answer}
 
 -- an answer of a chain whose first reader reads trees
 pub tree_answer : {A B C : Type 0} {R : ℕ → Kinds → A → Type 0} {depth : ℕ} (p : Parser (WithHeight A)) → ReadsOnly p depth R → (ts : Kinds) (f : WithHeight A → Parser B) (q : B × Kinds) → and_then (p ts) f ≡ Some q

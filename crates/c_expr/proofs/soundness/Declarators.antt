@@ -8,15 +8,15 @@ use Rattle.c_tree.specs.declared.expression.Direct.TheVariants as direct_as
 use Rattle.c_tree.specs.declared.expression.Suffix.{Suffix}
 use Rattle.c_tree.specs.Marks.{Kinds, wrapped, greatest_pairs}
 use Rattle.c_tree.specs.Grammar.{IsFree, HasParts, star_kinds, DirectReads, DeclaratorReads, DeclaratorForm}
-use Rattle.c_declarators.specs.declared.brackets.Core.{Core}
-use Rattle.c_declarators.specs.declared.brackets.Core.TheVariants as core_as
-use Rattle.c_declarators.specs.declared.brackets.Bracketed.{Bracketed}
-use Rattle.c_declarators.specs.inner.Parser.{Parser, and_then, ◌>>◌, mismatch, expect, run}
-use Rattle.c_declarators.specs.inner.Readers.{Readers, is_type_name, free_name, suffixes, is_none, direct_of, whole_of, in_brackets, named, finished, closed, direct_behind, direct_in, direct, declarator, opened}
+use Rattle.c_readers.specs.declared.brackets.Core.{Core}
+use Rattle.c_readers.specs.declared.brackets.Core.TheVariants as core_as
+use Rattle.c_readers.specs.declared.brackets.Bracketed.{Bracketed}
+use Rattle.c_readers.specs.inner.Parser.{Parser, and_then, ◌>>◌, mismatch, expect, run}
+use Rattle.c_readers.specs.inner.Readers.{Readers, is_type_name, free_name, suffixes, is_none, direct_of, whole_of, in_brackets, named, finished, closed, direct_behind, direct_in, direct, declarator, opened}
 use Rattle.c_expr.specs.Theorems.{ReadsOnly, AreSound}
 use Rattle.c_expr.proofs.TypeNames.{no_type_name_is_free}
 use Rattle.c_expr.proofs.soundness.Chains.{both_true, tree_answer, pure_answer, push, run_split, opens, opened_split, max_low, zero_low, one_low, above_low}
-use Rattle.c_declarators.specs.inner.ParserLemmas.{both_answer, mark_answer, tested_at, plain_holds, join}
+use Rattle.c_readers.specs.inner.ParserLemmas.{both_answer, mark_answer, tested_at, plain_holds, join}
 use Rattle.c_expr.proofs.soundness.AbstractDeclarators.{suffixes_read, no_suffix_no_token, no_part}
 
 -- a name that the test admits is free, and it is the token

@@ -13,15 +13,15 @@ use Rattle.c_tree.specs.declared.operator.UnaryOperator.TheVariants as unary
 use Rattle.c_tree.specs.declared.expression.Expr.{Expr}
 use Rattle.c_tree.specs.Marks.{Kinds, wrapped, greatest_pairs, unary_mark, assign_level, cast_level, unary_level, primary_level}
 use Rattle.c_tree.specs.Grammar.{ExprReads, ExprForm}
-use Rattle.c_declarators.specs.declared.operand.Continuation.{Continuation}
-use Rattle.c_declarators.specs.declared.operand.Operand.{Operand}
-use Rattle.c_declarators.specs.declared.operand.Part.{Part}
-use Rattle.c_declarators.specs.inner.Parser.{Parser, Outcome, WithHeight, behind}
-use Rattle.c_declarators.specs.inner.Readers.{Readers, is_type_name, continuation, whole_level, left_level, takes, taken, going_on, extended, bracketed, operand, opened, opens_type, part, grown_by, grown_with, grow_from, grow, close, sizeof, cast, unary_behind, prefixed_by, prefixed, head_by, head, level_in, level}
+use Rattle.c_readers.specs.declared.operand.Continuation.{Continuation}
+use Rattle.c_readers.specs.declared.operand.Operand.{Operand}
+use Rattle.c_readers.specs.declared.operand.Part.{Part}
+use Rattle.c_readers.specs.inner.Parser.{Parser, Outcome, WithHeight, behind}
+use Rattle.c_readers.specs.inner.Readers.{Readers, is_type_name, continuation, whole_level, left_level, takes, taken, going_on, extended, bracketed, operand, opened, opens_type, part, grown_by, grown_with, grow_from, grow, close, sizeof, cast, unary_behind, prefixed_by, prefixed, head_by, head, level_in, level}
 use Rattle.c_expr.specs.Theorems.{ReadsOnly, AreSound}
 use Rattle.c_expr.proofs.TypeNames.{no_type_name_is_free}
 use Rattle.c_expr.proofs.soundness.Chains.{both_true, tree_answer, pure_answer, push, opens, opened_split, max_low, zero_low, one_low, above_low}
-use Rattle.c_declarators.specs.inner.ParserLemmas.{both_answer, mark_answer, tested, tested_at, plain_holds, ReadsPrefix, join}
+use Rattle.c_readers.specs.inner.ParserLemmas.{both_answer, mark_answer, tested, tested_at, plain_holds, ReadsPrefix, join}
 use Rattle.c_expr.proofs.soundness.Declarators.{wrapped_more}
 use Rattle.c_expr.proofs.soundness.Parts.{mark_of, continuation_mark, PartReads, part_reads}
 

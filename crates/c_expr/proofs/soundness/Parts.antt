@@ -6,13 +6,13 @@ use Rattle.c_tokens.specs.declared.token.Mark.TheVariants as mark
 use Rattle.c_tree.specs.declared.expression.Expr.{Expr}
 use Rattle.c_tree.specs.Marks.{Kinds, assign_mark, binary_mark, assign_level, conditional_level, binary_level}
 use Rattle.c_tree.specs.Grammar.{ExprReads, ExprForm, ArgumentsRead, ArgumentListReads}
-use Rattle.c_declarators.specs.declared.operand.Continuation.{Continuation}
-use Rattle.c_declarators.specs.declared.operand.Continuation.TheVariants as goes
-use Rattle.c_declarators.specs.declared.operand.Part.{Part}
-use Rattle.c_declarators.specs.inner.Parser.{behind, separated}
-use Rattle.c_declarators.specs.inner.Readers.{Readers, free_name, continuation_of, continuation, whole_level, left_level, part_level, with_part, arguments, index, arms, part}
+use Rattle.c_readers.specs.declared.operand.Continuation.{Continuation}
+use Rattle.c_readers.specs.declared.operand.Continuation.TheVariants as goes
+use Rattle.c_readers.specs.declared.operand.Part.{Part}
+use Rattle.c_readers.specs.inner.Parser.{behind, separated}
+use Rattle.c_readers.specs.inner.Readers.{Readers, free_name, continuation_of, continuation, whole_level, left_level, part_level, with_part, arguments, index, arms, part}
 use Rattle.c_expr.specs.Theorems.{ReadsOnly, AreSound}
-use Rattle.c_declarators.specs.inner.ParserLemmas.{both_answer, mark_answer, eaten, join}
+use Rattle.c_readers.specs.inner.ParserLemmas.{both_answer, mark_answer, eaten, join}
 use Rattle.c_expr.proofs.soundness.Chains.{tree_answer, pure_answer, push, max_low, zero_low}
 use Rattle.c_expr.proofs.SeparatedLists.{SeparatedRead, separated_found}
 use Rattle.c_expr.proofs.soundness.Declarators.{free_name_is}

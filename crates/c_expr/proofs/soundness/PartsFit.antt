@@ -4,15 +4,15 @@ use Rattle.c_tokens.specs.declared.token.Kind.TheVariants.{Word, Name, Number, T
 use Rattle.c_tokens.specs.declared.token.Mark.TheVariants as mark
 use Rattle.c_tree.specs.declared.expression.Expr.{Expr}
 use Rattle.c_tree.specs.Marks.{Kinds, assign_level, conditional_level, binary_level}
-use Rattle.c_declarators.specs.declared.operand.Continuation.{Continuation}
-use Rattle.c_declarators.specs.declared.operand.Continuation.TheVariants as goes
-use Rattle.c_declarators.specs.declared.operand.Part.{Part}
-use Rattle.c_declarators.specs.declared.operand.Part.TheVariants as part_as
-use Rattle.c_declarators.specs.inner.Parser.{WithHeight, pure, separated}
-use Rattle.c_declarators.specs.inner.Readers.{Readers, whole_level, part_level, is_type_name, free_name, arguments, index, arms, part}
+use Rattle.c_readers.specs.declared.operand.Continuation.{Continuation}
+use Rattle.c_readers.specs.declared.operand.Continuation.TheVariants as goes
+use Rattle.c_readers.specs.declared.operand.Part.{Part}
+use Rattle.c_readers.specs.declared.operand.Part.TheVariants as part_as
+use Rattle.c_readers.specs.inner.Parser.{WithHeight, pure, separated}
+use Rattle.c_readers.specs.inner.Readers.{Readers, whole_level, part_level, is_type_name, free_name, arguments, index, arms, part}
 use Rattle.c_expr.specs.Theorems.{AreSound}
 use Rattle.c_expr.proofs.completeness.Operands.{PartShrinks}
-use Rattle.c_declarators.specs.inner.ParserLemmas.{found_both, both_answer, mark_answer, tested_at, eaten, join}
+use Rattle.c_readers.specs.inner.ParserLemmas.{found_both, both_answer, mark_answer, tested_at, eaten, join}
 use Rattle.c_expr.proofs.soundness.Chains.{tree_answer, pure_parts, push, stop}
 use Rattle.c_expr.proofs.SeparatedLists.{separated_found}
 

@@ -4,11 +4,11 @@ use Rattle.c_tokens.specs.declared.token.Mark.TheVariants as mark
 use Rattle.c_tree.specs.declared.expression.MemberDecl.{MemberDecl}
 use Rattle.c_tree.specs.Marks.{Kinds}
 use Rattle.c_tree.specs.Grammar.{SpecReads, DirectReads, AbstractReads}
-use Rattle.c_declarators.specs.declared.brackets.Bracketed.{Bracketed}
-use Rattle.c_declarators.specs.inner.Parser.{WithHeight, mismatch}
-use Rattle.c_declarators.specs.inner.Readers.{Readers, nothing, readers, direct_of, direct, declarator, abstract, spec, struct_body, member, members, members_from}
+use Rattle.c_readers.specs.declared.brackets.Bracketed.{Bracketed}
+use Rattle.c_readers.specs.inner.Parser.{WithHeight, mismatch}
+use Rattle.c_readers.specs.inner.Readers.{Readers, nothing, readers, direct_of, direct, declarator, abstract, spec, struct_body, member, members, members_from}
 use Rattle.c_expr.specs.Theorems.{ReadsOnly, AreSound, ReadersAreSound}
-use Rattle.c_declarators.specs.inner.ParserLemmas.{both_answer, mark_answer}
+use Rattle.c_readers.specs.inner.ParserLemmas.{both_answer, mark_answer}
 use Rattle.c_expr.proofs.soundness.AbstractDeclarators.{abstract_reads}
 use Rattle.c_expr.proofs.soundness.Declarators.{direct_found, declarator_reads}
 use Rattle.c_expr.proofs.soundness.Specs.{NamedReads, TagReads, struct_body_reads, spec_reads, type_word_reads, params_reads}

@@ -13,11 +13,11 @@ use Rattle.c_tree.specs.declared.expression.Params.{Params}
 use Rattle.c_tree.specs.declared.expression.Spec.{Spec}
 use Rattle.c_tree.specs.Marks.{Kinds}
 use Rattle.c_tree.specs.Grammar.{IsFree, SpecReads, MembersRead, DeclaratorsRead, DeclaratorReads, AbstractReads, TypeWordReads, ParamReads, ParamListReads, ParamsRead}
-use Rattle.c_declarators.specs.inner.Parser.{Parser, WithHeight, same_mark, same_word, is_word, sees, behind, separated}
-use Rattle.c_declarators.specs.inner.Readers.{Readers, is_type_name, free_name, member, members_from, members, struct_body, struct, spec_by, spec, type_word, looks_named, param, is_void_alone, params}
+use Rattle.c_readers.specs.inner.Parser.{Parser, WithHeight, same_mark, same_word, is_word, sees, behind, separated}
+use Rattle.c_readers.specs.inner.Readers.{Readers, is_type_name, free_name, member, members_from, members, struct_body, struct, spec_by, spec, type_word, looks_named, param, is_void_alone, params}
 use Rattle.c_expr.specs.Theorems.{ReadsOnly, ClosesParenthesis, AreSound}
 use Rattle.c_expr.proofs.TypeNames.{type_name_contains}
-use Rattle.c_declarators.specs.inner.ParserLemmas.{same_word_true, both_answer, mark_answer, tested, tested_at, eaten, ReadsPrefix, join, Found, found_all, found_more}
+use Rattle.c_readers.specs.inner.ParserLemmas.{same_word_true, both_answer, mark_answer, tested, tested_at, eaten, ReadsPrefix, join, Found, found_all, found_more}
 use Rattle.c_expr.proofs.soundness.Chains.{both_true, tree_answer, pure_answer, pure_holds, push, max_low, zero_low, above_low}
 use Rattle.c_expr.proofs.SeparatedLists.{SeparatedRead, separated_found}
 use Rattle.c_expr.proofs.soundness.Declarators.{free_name_is}

@@ -7,9 +7,9 @@ use Rattle.c_tokens.specs.declared.token.Mark.TheVariants as mark
 use Rattle.c_tree.specs.Marks.{Kinds}
 use Rattle.c_expr.specs.FirstTokens.{Begins, mark_begins_expression, CanBeginExpression, CanBeginSpec, CanBeginDeclarator}
 use Rattle.c_expr.specs.Theorems.{Lacks, Stops}
-use Rattle.c_declarators.specs.inner.Parser.{same_mark}
-use Rattle.c_declarators.specs.inner.ParserLemmas.{same_mark_true}
-use Rattle.c_declarators.specs.inner.Readers.{continuation_of}
+use Rattle.c_readers.specs.inner.Parser.{same_mark}
+use Rattle.c_readers.specs.inner.ParserLemmas.{same_mark_true}
+use Rattle.c_readers.specs.inner.Readers.{continuation_of}
 
 pub Begins-append : (P : Kind → Type 0) (ts rest : Kinds) → Begins P ts → Begins P (ts ++ rest)
 Begins-append P [] rest h = absurd h

@@ -2,9 +2,9 @@
 use Rattle.std.specs.Prelude.{ℕ, if◌then◌else◌, nat_lt, List}
 use Rattle.c_tokens.specs.declared.token.Mark.TheVariants as mark
 use Rattle.c_tree.specs.Marks.{greatest_pairs, assign_level}
-use Rattle.c_declarators.specs.declared.operand.Operand.{Operand}
-use Rattle.c_declarators.specs.inner.Parser.{Parser, ◌>>=◌, ◌>>◌, pure, mismatch, expect}
-use Rattle.c_declarators.specs.inner.Readers.{Readers, grow, bracketed}
+use Rattle.c_readers.specs.declared.operand.Operand.{Operand}
+use Rattle.c_readers.specs.inner.Parser.{Parser, ◌>>=◌, ◌>>◌, pure, mismatch, expect}
+use Rattle.c_readers.specs.inner.Readers.{Readers, grow, bracketed}
 
 -- the operand in the parentheses that are open round it
 unfoldable pub in_pair : List (List ℕ) → Readers → ℕ → Operand → Parser Operand

@@ -15,15 +15,15 @@ use Rattle.c_tree.specs.Marks.{Kinds, wrapped, assign_level}
 use Rattle.c_tree.specs.Trees.{full as full_of}
 use Rattle.c_tree.specs.Grammar.{SpecReads, DeclaratorReads, ExprReads}
 use Rattle.c_tree.specs.Statements.{InitReads, InitsRead, InitDeclaratorReads, InitDeclaratorListReads, InitDeclaratorsRead, DeclReads, OptionReads, ForInitReads}
-use Rattle.c_declarators.specs.inner.Parser.{Parser, Outcome, WithHeight, same_mark, behind}
-use Rattle.c_declarators.specs.inner.Readers.{Readers, begins_spec, continuation_of}
+use Rattle.c_readers.specs.inner.Parser.{Parser, Outcome, WithHeight, same_mark, behind}
+use Rattle.c_readers.specs.inner.Readers.{Readers, begins_spec, continuation_of}
 use Rattle.c_expr.specs.Theorems.{AreComplete, Takes, Stops, Lacks, FirstTokens}
 use Rattle.c_expr.specs.FirstTokens.{Begins, mark_begins_expression, CanBeginSpec}
 use Rattle.c_expr.specs.inner.FirstTokensLemmas.{Begins-append, Begins-same, stops_at, expression_lacks}
 use Rattle.c_parser.specs.inner.Readers.{full_expr, option_to, for_tests, condition, inits_from, braces, init_over, with_init, declared_from, declared, decl_of, decl, for_init}
 use Rattle.c_parser.proofs.ChainLemmas.{then_takes, if_yes, if_no, eats, leaves, expects}
 use Rattle.c_parser.proofs.completeness.StatementsBegin.{Ends, comma_ends, semicolon_ends, ends_goes_on, ends_stops, ends_no_assign, semicolon_no_comma, semicolon_no_brace, begins_some, init_no_brace, InitsRead-begins, GoesOn, no_suffix, declarator_no_brace, declarator_no_semicolon}
-use Rattle.c_declarators.specs.inner.ParserLemmas.{found_then}
+use Rattle.c_readers.specs.inner.ParserLemmas.{found_then}
 
 -- a parser at the same tokens, put otherwise
 pub at_tokens : {A : Type 0} (p : Parser A) {ts us : Kinds} {z : Outcome A} → ts ≡ us → p us ≡ z → p ts ≡ z

@@ -16,8 +16,8 @@ use Rattle.c_tree.specs.DeclaredName.{declared_name}
 use Rattle.c_tree.specs.Theorems.{DeclaratorsDeclareTheirNames}
 use Rattle.c_tree.specs.Grammar.{SpecReads, DeclaratorsRead, DeclaratorReads}
 use Rattle.c_tree.specs.Statements.{InitReads, StmtReads, BlockReads, ItemReads}
-use Rattle.c_declarators.specs.inner.Parser.{Parser, Outcome, WithHeight, same_mark, sees}
-use Rattle.c_declarators.specs.inner.Readers.{Readers, readers}
+use Rattle.c_readers.specs.inner.Parser.{Parser, Outcome, WithHeight, same_mark, sees}
+use Rattle.c_readers.specs.inner.Readers.{Readers, readers}
 use Rattle.c_expr.specs.Theorems.{AreComplete, Takes, Stops, Lacks, LacksSuffix, ExpressionLaws, FirstTokens}
 use Rattle.c_expr.specs.FirstTokens.{Begins, CanBeginSpec}
 use Rattle.c_expr.specs.inner.FirstTokensLemmas.{Begins-append}

@@ -16,8 +16,8 @@ use Rattle.c_tree.specs.Marks.{Kinds, wrapped, assign_level}
 use Rattle.c_tree.specs.Trees.{full, for_loop}
 use Rattle.c_tree.specs.Grammar.{ExprReads}
 use Rattle.c_tree.specs.Statements.{InitReads, OptionReads, ForInitReads, StmtReads, BlockReads, BlockItemsRead, BlockItemReads}
-use Rattle.c_declarators.specs.inner.Parser.{Parser, WithHeight}
-use Rattle.c_declarators.specs.inner.Readers.{Readers, begins_spec}
+use Rattle.c_readers.specs.inner.Parser.{Parser, WithHeight}
+use Rattle.c_readers.specs.inner.Readers.{Readers, begins_spec}
 use Rattle.c_expr.specs.Theorems.{AreComplete, Takes, Stops, FirstTokens}
 use Rattle.c_expr.specs.FirstTokens.{Begins, CanBeginSpec, CanBeginExpression}
 use Rattle.c_expr.specs.inner.FirstTokensLemmas.{Begins-append, Begins-same}
@@ -25,7 +25,7 @@ use Rattle.c_parser.specs.inner.Readers.{sees_word, form_of, ended, block_item, 
 use Rattle.c_parser.proofs.ChainLemmas.{then_takes, if_yes, if_no, eats, leaves, expects, eats_word, leaves_word, expects_word}
 use Rattle.c_parser.proofs.completeness.StatementsBegin.{begins_some, begins_either, CanBeginStatement, StmtReads-begins, statement_no_spec, CanFollowBlockItem, block_item_no_brace, no_else}
 use Rattle.c_parser.proofs.completeness.Declarations.{at_tokens, nothing_before, option_takes, for_tests_take, condition_takes, decl_takes, decl_begins, for_init_takes}
-use Rattle.c_declarators.specs.inner.ParserLemmas.{found_then}
+use Rattle.c_readers.specs.inner.ParserLemmas.{found_then}
 
 -- the parser takes statements of at most this depth; before an `else` it takes closed ones alone
 abbrev pub StmtsTake : List (List ℕ) → ℕ → Parser (WithHeight Stmt) → Type 0

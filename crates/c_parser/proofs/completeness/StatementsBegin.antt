@@ -14,12 +14,12 @@ use Rattle.c_tree.specs.declared.statement.Stmt.{Stmt}
 use Rattle.c_tree.specs.Marks.{Kinds}
 use Rattle.c_tree.specs.Grammar.{IsFree, DeclaratorReads}
 use Rattle.c_tree.specs.Statements.{InitReads, InitsRead, OptionReads, StmtReads, BlockReads}
-use Rattle.c_declarators.specs.inner.Parser.{same_mark, same_word}
-use Rattle.c_declarators.specs.inner.Readers.{begins_spec, continuation_of}
+use Rattle.c_readers.specs.inner.Parser.{same_mark, same_word}
+use Rattle.c_readers.specs.inner.Readers.{begins_spec, continuation_of}
 use Rattle.c_expr.specs.Theorems.{Lacks, LacksSuffix, Stops, FirstTokens}
 use Rattle.c_expr.specs.FirstTokens.{Begins, mark_begins_expression, word_begins_spec, CanBeginExpression, CanBeginSpec}
 use Rattle.c_expr.specs.inner.FirstTokensLemmas.{Begins-append, Begins-same, OpensNothing, brace_opens_nothing, declarator_lacks, expression_lacks, other_mark, stops_at}
-use Rattle.c_declarators.specs.inner.ParserLemmas.{same_word_true}
+use Rattle.c_readers.specs.inner.ParserLemmas.{same_word_true}
 use Rattle.c_parser.specs.inner.Readers.{sees_word}
 
 -- ---- words

@@ -12,12 +12,12 @@ use Rattle.c_tree.specs.declared.statement.InitDeclarator.{InitDeclarator}
 use Rattle.c_tree.specs.Marks.{Kinds, wrapped, assign_level}
 use Rattle.c_tree.specs.Grammar.{SpecReads, DeclaratorReads, ExprReads}
 use Rattle.c_tree.specs.Statements.{InitReads, InitsRead, InitDeclaratorReads, InitDeclaratorListReads, InitDeclaratorsRead, DeclReads, OptionReads, ForInitReads}
-use Rattle.c_declarators.specs.inner.Parser.{Parser, WithHeight}
-use Rattle.c_declarators.specs.inner.Readers.{Readers, begins_spec}
+use Rattle.c_readers.specs.inner.Parser.{Parser, WithHeight}
+use Rattle.c_readers.specs.inner.Readers.{Readers, begins_spec}
 use Rattle.c_expr.specs.Theorems.{ReadsOnly, AreSound}
 use Rattle.c_parser.specs.inner.Readers.{full_expr, option_to, for_tests, condition, inits_from, braces, init_over, with_init, declared_from, declared, decl_of, decl, for_init}
 use Rattle.c_parser.proofs.ChainLemmas.{tree_answered}
-use Rattle.c_declarators.specs.inner.ParserLemmas.{plain_holds, tested, eaten, mark_answer, Found, ReadsPrefix, found_all, found_more, join}
+use Rattle.c_readers.specs.inner.ParserLemmas.{plain_holds, tested, eaten, mark_answer, Found, ReadsPrefix, found_all, found_more, join}
 
 module _ (names : List (List ℕ)) (depth : ℕ) (r : Readers) (sound : AreSound names depth r) where
   -- ---- options and conditions

@@ -11,13 +11,13 @@ use Rattle.c_tree.specs.declared.statement.Stmt.{Stmt}
 use Rattle.c_tree.specs.declared.statement.Stmt.TheVariants as stmt_as
 use Rattle.c_tree.specs.Marks.{Kinds, wrapped}
 use Rattle.c_tree.specs.Statements.{InitReads, StmtReads, BlockReads, BlockItemsRead, BlockItemReads}
-use Rattle.c_declarators.specs.inner.Parser.{Parser, WithHeight}
-use Rattle.c_declarators.specs.inner.Readers.{Readers, begins_spec}
+use Rattle.c_readers.specs.inner.Parser.{Parser, WithHeight}
+use Rattle.c_readers.specs.inner.Readers.{Readers, begins_spec}
 use Rattle.c_expr.specs.Theorems.{ReadsOnly, AreSound}
 use Rattle.c_parser.specs.declared.form.Form.TheVariants as form_as
 use Rattle.c_parser.specs.inner.Readers.{sees_word, form_of, ended, option_to, for_tests, condition, decl, for_init, block_item, block_items_from, block_items, block, if_behind, while_behind, do_behind, for_behind, return_behind, computes, stmt_by, stmt_over}
 use Rattle.c_parser.proofs.ChainLemmas.{tree_answered, word_eaten, word_expected}
-use Rattle.c_declarators.specs.inner.ParserLemmas.{plain_holds, tested, eaten, mark_answer, same_word_is, ReadsPrefix, Found, join, found_more, found_all}
+use Rattle.c_readers.specs.inner.ParserLemmas.{plain_holds, tested, eaten, mark_answer, same_word_is, ReadsPrefix, Found, join, found_more, found_all}
 use Rattle.c_parser.proofs.soundness.Declarations.{option_sound, for_tests_sound, condition_sound, decl_sound, for_init_sound}
 
 -- a statement stands before this rest, and where it may take an `else` none is left

@@ -4,9 +4,9 @@ use Rattle.std.specs.declared.alloc.Global.{Global}
 use denote.Ref.{Bor, MutBor}
 use Rattle.c_tree.specs.declared.statement.Stmt.{Stmt}
 use Rattle.c_tree.specs.Marks.{Kinds}
-use Rattle.c_declarators.specs.declared.error.Failure.{Failure}
-use Rattle.c_declarators.specs.inner.Parser.{WithHeight}
-use Rattle.c_declarators.specs.inner.Reads.{Reads}
+use Rattle.c_readers.specs.declared.error.Failure.{Failure}
+use Rattle.c_readers.specs.inner.Parser.{WithHeight}
+use Rattle.c_readers.specs.inner.Reads.{Reads}
 use Rattle.c_parser.specs.inner.Readers.{stmt}
 
 -- one that reads statements at each depth up to this

@@ -25,8 +25,8 @@ use Rattle.c_tree.specs.declared.statement.Stmt.TheVariants as stmt_as
 use Rattle.c_tree.specs.Marks.{Kinds, greatest_depth, assign_level}
 use Rattle.c_tree.specs.Trees.{full, block as block_of, for_loop}
 use Rattle.c_tree.specs.DeclaredName.{declared_name}
-use Rattle.c_declarators.specs.inner.Parser.{Parser, Outcome, WithHeight, ◌>>=◌, ◌>>◌, pure, mismatch, is_word, sees, behind, eat, expect}
-use Rattle.c_declarators.specs.inner.Readers.{Readers, readers, begins_spec}
+use Rattle.c_readers.specs.inner.Parser.{Parser, Outcome, WithHeight, ◌>>=◌, ◌>>◌, pure, mismatch, is_word, sees, behind, eat, expect}
+use Rattle.c_readers.specs.inner.Readers.{Readers, readers, begins_spec}
 use Rattle.c_parser.specs.declared.form.Form.{Form}
 use Rattle.c_parser.specs.declared.form.Form.TheVariants as form_as
 

@@ -2,7 +2,7 @@ use Rattle.std.proofs.Common.{◌≡◌, drop, Some, None, ap, ◌∙◌, rules,
 use Rattle.std.proofs.lemmas.Grind.{common_steps}
 use Rattle.std.proofs.lemmas.List.{take_rest}
 use Rattle.c_tree.specs.Marks.{kinds_of}
-use Rattle.c_declarators.specs.inner.Readers.{readers}
+use Rattle.c_readers.specs.inner.Readers.{readers}
 use Rattle.c_expr.proofs.completeness.ReadersAreComplete.{readers_read_longest}
 use Rattle.c_expr.proofs.completeness.LongestExpressions.{longest_at, none_at, none_behind, leaves_inside, read_by}
 use Rattle.c_expr.proofs.soundness.ReadersAreSound.{readers_are_sound}

@@ -1,11 +1,11 @@
 use Rattle.std.proofs.Common.{◌≡◌, ◌-◌, true, false, rules, arith}
 use Rattle.std.proofs.lemmas.Grind.{common_steps}
 use Rattle.c_tokens.specs.declared.token.Mark.TheVariants as mark
-use Rattle.c_declarators.specs.inner.Parser.{sees}
-use Rattle.c_declarators.specs.inner.Readers.{readers}
+use Rattle.c_readers.specs.inner.Parser.{sees}
+use Rattle.c_readers.specs.inner.Readers.{readers}
 use Rattle.c_parser.specs.inner.Readers.{init, inits_from}
 use Rattle.c_parser.proofs.ReadersLemmas.{braced, init_zero, init_plain, init_braced}
-use Rattle.c_declarators.specs.inner.ParserLemmas.{next_turn, last_turn}
+use Rattle.c_readers.specs.inner.ParserLemmas.{next_turn, last_turn}
 use Rattle.c_parser.proofs.declarations.+init.Goals as goal
 
 pub returns-then-depth-eq0-clause-reads : goal.returns-then-depth-eq0-clause-reads

@@ -1,5 +1,5 @@
 use Rattle.std.proofs.Common.{◌≡◌, ◌≤◌, ◌-◌}
-use Rattle.c_declarators.specs.inner.Readers.{readers}
+use Rattle.c_readers.specs.inner.Readers.{readers}
 use Rattle.c_parser.specs.inner.Readers.{init, inits_from}
 use Rattle.c_parser.proofs.ReadersLemmas.{braced}
 use Rattle.c_parser.proofs.declarations.+init.Given as goal

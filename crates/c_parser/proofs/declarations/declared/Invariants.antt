@@ -1,5 +1,5 @@
 use Rattle.std.proofs.Common.{◌≡◌, ◌≤◌, ◌-◌}
-use Rattle.c_declarators.specs.inner.Readers.{readers}
+use Rattle.c_readers.specs.inner.Readers.{readers}
 use Rattle.c_parser.specs.inner.Readers.{init, declared, declared_from}
 use Rattle.c_parser.proofs.declarations.declared.Given as goal
 

@@ -1,7 +1,7 @@
 use Rattle.std.proofs.Common.{rules, arith}
 use Rattle.std.proofs.lemmas.Grind.{common_steps}
 use Rattle.c_parser.specs.inner.Readers.{source_of, items_from}
-use Rattle.c_declarators.specs.inner.ParserLemmas.{next_turn, last_turn}
+use Rattle.c_readers.specs.inner.ParserLemmas.{next_turn, last_turn}
 use Rattle.c_parser.proofs.source.items_of.Goals as goal
 
 pub loop-turn-init : goal.loop-turn-init

@@ -1,9 +1,9 @@
 use Rattle.std.proofs.Common.{◌-◌, ◌∙◌, rules, arith}
 use Rattle.std.proofs.lemmas.Grind.{common_steps}
-use Rattle.c_declarators.specs.inner.Nests.{below}
-use Rattle.c_declarators.specs.inner.Readers.{close}
+use Rattle.c_readers.specs.inner.Nests.{below}
+use Rattle.c_readers.specs.inner.Readers.{close}
 use Rattle.c_expr.proofs.PairsLemmas.{close_more, close_last}
-use Rattle.c_declarators.specs.inner.ParserLemmas.{next_turn, last_turn}
+use Rattle.c_readers.specs.inner.ParserLemmas.{next_turn, last_turn}
 use Rattle.c_expr.proofs.expressions.Expressions.close.Goals as goal
 
 pub returns-in_err-whole-clause-reads : goal.returns-in_err-whole-clause-reads

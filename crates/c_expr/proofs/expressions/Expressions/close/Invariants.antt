@@ -1,6 +1,6 @@
 use Rattle.std.proofs.Common.{◌≡◌, ◌+◌, ◌-◌, ◌≤◌}
-use Rattle.c_declarators.specs.inner.Nests.{below}
-use Rattle.c_declarators.specs.inner.Readers.{close}
+use Rattle.c_readers.specs.inner.Nests.{below}
+use Rattle.c_readers.specs.inner.Readers.{close}
 use Rattle.c_expr.proofs.expressions.Expressions.close.Given as goal
 
 abbrev pub invariant-loop-pair : goal.invariant-loop-pair

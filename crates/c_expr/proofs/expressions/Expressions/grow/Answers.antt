@@ -1,8 +1,8 @@
 use Rattle.std.proofs.Common.{rules, arith, ◌-◌}
 use Rattle.std.proofs.lemmas.Grind.{common_steps}
-use Rattle.c_declarators.specs.inner.Nests.{below}
-use Rattle.c_declarators.specs.inner.Readers.{grow, grow_from}
-use Rattle.c_declarators.specs.inner.ParserLemmas.{next_turn, last_turn}
+use Rattle.c_readers.specs.inner.Nests.{below}
+use Rattle.c_readers.specs.inner.Readers.{grow, grow_from}
+use Rattle.c_readers.specs.inner.ParserLemmas.{next_turn, last_turn}
 use Rattle.c_expr.proofs.expressions.Expressions.grow.Goals as goal
 
 pub loop-turn-init : goal.loop-turn-init

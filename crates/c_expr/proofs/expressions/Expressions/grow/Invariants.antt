@@ -1,6 +1,6 @@
 use Rattle.std.proofs.Common.{◌≡◌, ◌+◌, ◌-◌, ◌≤◌}
-use Rattle.c_declarators.specs.inner.Nests.{below}
-use Rattle.c_declarators.specs.inner.Readers.{grow, grow_from}
+use Rattle.c_readers.specs.inner.Nests.{below}
+use Rattle.c_readers.specs.inner.Readers.{grow, grow_from}
 use Rattle.c_expr.proofs.expressions.Expressions.grow.Given as goal
 
 abbrev pub invariant-loop-turn : goal.invariant-loop-turn

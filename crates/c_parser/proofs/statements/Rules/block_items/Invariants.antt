@@ -1,5 +1,5 @@
 use Rattle.std.proofs.Common.{◌≡◌, ◌≤◌, ◌-◌}
-use Rattle.c_declarators.specs.inner.Readers.{readers}
+use Rattle.c_readers.specs.inner.Readers.{readers}
 use Rattle.c_parser.specs.inner.Readers.{init, stmt, of_depth, block_items, block_items_from}
 use Rattle.c_parser.proofs.statements.Rules.block_items.Given as goal
 

@@ -1,5 +1,0 @@
-pub mod Parser
-pub mod ParserLemmas
-pub mod Readers
-pub mod Reads
-pub mod Nests

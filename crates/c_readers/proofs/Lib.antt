@@ -1,0 +1,3 @@
+mod NamesSet
+mod ReadersLemmas
+mod Runs
