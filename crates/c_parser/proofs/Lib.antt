@@ -1,5 +1,3 @@
-mod ChainLemmas
-mod ReadersLemmas
 mod Sources
 mod soundness
 mod completeness

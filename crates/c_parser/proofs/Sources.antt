@@ -11,7 +11,7 @@ use Rattle.c_readers.specs.inner.Parser.{Outcome}
 use Rattle.c_expr.specs.Theorems.{ExpressionLaws}
 use Rattle.c_parser.specs.inner.Readers.{item, Found, behind_item, items_from, source_of}
 use Rattle.c_parser.specs.Theorems.{ItemsAreToldApart, SourcesHaveOneTree, RefusalsAreCertain}
-use Rattle.c_parser.proofs.completeness.StatementsBegin.{begins_some}
+use Rattle.c_statements.proofs.completeness.StatementsBegin.{begins_some}
 use Rattle.c_readers.specs.inner.ParserLemmas.{join}
 use Rattle.c_parser.proofs.soundness.Items.{ItemRead, item_sound}
 use Rattle.c_parser.proofs.completeness.Items.{item_takes}

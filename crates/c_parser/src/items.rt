@@ -4,13 +4,11 @@ ghost use Rattle.std.specs.Prelude.{◌≡◌, ◌≤◌, ◌<◌, ◌^◌, map,
 ghost use Rattle.c_tree.specs.DeclaredName.{declared_name};
 ghost use Rattle.c_readers.specs.inner.Reads.{Reads};
 ghost use Rattle.c_parser.specs.inner.Readers as reader;
-ghost use Rattle.c_parser.specs.inner.Readers.{of_depth};
+ghost use Rattle.c_statements.specs.inner.Readers.{of_depth};
 
-use crate::declarations::decl_of;
-use crate::depths::block;
-use crate::words::eat_word;
 use c_expr::{declarator, spec};
 use c_readers::{Cursor, Failure, Names};
+use c_statements::{block, decl_of, eat_word};
 use c_tokens::{Keyword, Mark};
 use c_tree::{Decl, Declarator, Item, Spec};
 use c_types::{Name, copy_name};

@@ -1,15 +1,10 @@
-//! Reads statements, items and whole sources from tokens.
+//! Reads items and whole sources from tokens.
 #![tactic(auto)]
 
-mod declarations;
-mod depths;
 mod error;
-mod form;
 mod items;
 mod source;
-mod statements;
 mod theorems;
-mod words;
 
 pub use error::ParseRefusal;
 pub use source::parse;

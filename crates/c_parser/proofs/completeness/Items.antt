@@ -21,11 +21,12 @@ use Rattle.c_readers.specs.inner.Readers.{Readers, readers}
 use Rattle.c_expr.specs.Theorems.{AreComplete, Takes, Stops, Lacks, LacksSuffix, ExpressionLaws, FirstTokens}
 use Rattle.c_expr.specs.FirstTokens.{Begins, CanBeginSpec}
 use Rattle.c_expr.specs.inner.FirstTokensLemmas.{Begins-append}
-use Rattle.c_parser.specs.inner.Readers.{sees_word, decl_of, types_from, types, type_definition, item_of, untyped, item_over, init, stmt, item}
-use Rattle.c_parser.proofs.ChainLemmas.{then_takes, if_yes, if_no, eats, leaves, expects, eats_word, leaves_word}
-use Rattle.c_parser.proofs.completeness.StatementsBegin.{GoesOn, begins_some, spec_no_word, goes_on_lacks, no_suffix, brace_no_suffix, semicolon_ends, comma_ends, ends_goes_on, semicolon_no_comma, semicolon_no_brace, declarator_no_brace, declarator_no_semicolon}
-use Rattle.c_parser.proofs.completeness.Declarations.{at_tokens, DeclParts, decl_parts, decl_begins, init_over_takes}
-use Rattle.c_parser.proofs.completeness.Statements.{StmtsTake, block_takes, stmt_over_takes}
+use Rattle.c_statements.specs.inner.Readers.{sees_word, decl_of, init, stmt}
+use Rattle.c_parser.specs.inner.Readers.{types_from, types, type_definition, item_of, untyped, item_over, item}
+use Rattle.c_statements.proofs.ChainLemmas.{then_takes, if_yes, if_no, eats, leaves, expects, eats_word, leaves_word}
+use Rattle.c_statements.proofs.completeness.StatementsBegin.{GoesOn, begins_some, spec_no_word, goes_on_lacks, no_suffix, brace_no_suffix, semicolon_ends, comma_ends, ends_goes_on, semicolon_no_comma, semicolon_no_brace, declarator_no_brace, declarator_no_semicolon}
+use Rattle.c_statements.proofs.completeness.Declarations.{at_tokens, DeclParts, decl_parts, decl_begins, init_over_takes}
+use Rattle.c_statements.proofs.completeness.Statements.{StmtsTake, block_takes, stmt_over_takes}
 
 block_opens : {names : List (List ℕ)} {h : ℕ} {bs : Kinds} {b : Block} (rest : Kinds) → BlockReads names h bs b → sees mark.LeftBrace (bs ++ rest) ≡ true
 unfolding same_mark

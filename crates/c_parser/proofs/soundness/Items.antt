@@ -16,11 +16,12 @@ use Rattle.c_tree.specs.Statements.{InitReads, ItemReads}
 use Rattle.c_readers.specs.inner.Parser.{Parser, WithHeight, sees}
 use Rattle.c_readers.specs.inner.Readers.{Readers, readers}
 use Rattle.c_expr.specs.Theorems.{ReadsOnly, AreSound, ExpressionLaws}
-use Rattle.c_parser.specs.inner.Readers.{decl_of, block, types_from, types, type_definition, item_of, untyped, item_over, init, stmt, item}
+use Rattle.c_statements.specs.inner.Readers.{decl_of, block, init, stmt}
+use Rattle.c_parser.specs.inner.Readers.{types_from, types, type_definition, item_of, untyped, item_over, item}
 use Rattle.c_readers.specs.inner.ParserLemmas.{both_answer, plain_holds, tested, eaten, mark_answer, join}
-use Rattle.c_parser.proofs.ChainLemmas.{tree_answered, word_eaten}
-use Rattle.c_parser.proofs.soundness.Declarations.{init_over_sound, decl_of_sound, bare_decl}
-use Rattle.c_parser.proofs.soundness.Statements.{StmtsAreSound, block_sound, stmt_over_sound}
+use Rattle.c_statements.proofs.ChainLemmas.{tree_answered, word_eaten}
+use Rattle.c_statements.proofs.soundness.Declarations.{init_over_sound, decl_of_sound, bare_decl}
+use Rattle.c_statements.proofs.soundness.Statements.{StmtsAreSound, block_sound, stmt_over_sound}
 
 -- an item stands before this rest, and it declares these type names
 abbrev pub ItemRead : List (List ℕ) → ℕ → Kinds → Item × List (List ℕ) → Kinds → Type 0

@@ -1,7 +1,8 @@
 use Rattle.std.proofs.Common.{rules, arith}
 use Rattle.std.proofs.lemmas.Grind.{common_steps}
 use Rattle.c_readers.specs.inner.Readers.{readers}
-use Rattle.c_parser.specs.inner.Readers.{init, stmt, types, types_from}
+use Rattle.c_statements.specs.inner.Readers.{init, stmt}
+use Rattle.c_parser.specs.inner.Readers.{types, types_from}
 use Rattle.c_readers.specs.inner.ParserLemmas.{next_turn, last_turn}
 use Rattle.c_parser.proofs.items.types.Goals as goal
 

@@ -1,6 +1,7 @@
 use Rattle.std.proofs.Common.{◌≡◌, ◌-◌}
 use Rattle.c_readers.specs.inner.Readers.{readers}
-use Rattle.c_parser.specs.inner.Readers.{init, stmt, of_depth, types, types_from}
+use Rattle.c_statements.specs.inner.Readers.{init, stmt, of_depth}
+use Rattle.c_parser.specs.inner.Readers.{types, types_from}
 use Rattle.c_parser.proofs.items.types.Given as goal
 
 abbrev pub invariant-loop-turn : goal.invariant-loop-turn

@@ -1,0 +1,4 @@
+pub mod ChainLemmas
+mod ReadersLemmas
+pub mod soundness
+pub mod completeness

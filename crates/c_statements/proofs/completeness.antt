@@ -1,0 +1,3 @@
+pub mod StatementsBegin
+pub mod Declarations
+pub mod Statements
