@@ -1,4 +1,5 @@
 //! What traces hold, and their texts.
+ghost use Rattle.trace.specs.Records.{IsRecord};
 
 use meaning::{Action, Check, Inputs, Note, Record, Reply, Stop};
 use std::test::Fail;
@@ -84,12 +85,11 @@ fn steps_that_grow_leave_equal_ones(rt: HostRuntime) -> Result<(), Fail> {
 }
 
 /// Record `i` of a long run: every second one is one of ten, and the others are 300 different ones, again and again.
-fn of_long_run(i: u32) -> Record {
+fn of_long_run(i: u32) -> Record
+    ensures { IsRecord result }
+{
     if i % 2 == 0 {
-        return Record::Wrote {
-            a: i % 600,
-            v: -1,
-        };
+        return Record::Wrote { a: i % 600, v: -1 };
     }
     let note = Note::Call {
         depth: 1,
@@ -113,7 +113,11 @@ fn a_long_run_has_its_records_in_order(rt: HostRuntime) -> Result<(), Fail> {
     }
     assert_eq!(rt; trace.len(), 2_000);
     for i in 0..2_000_u32 {
-        assert_eq!(rt; trace.get(i as usize).copied(), Some(of_long_run(i)), "record {i}");
+        assert_eq!(rt;
+            trace.get(i as usize).copied(),
+            Some(of_long_run(i)),
+            "record {i}"
+        );
     }
     assert_eq!(rt; trace.get(2_000).copied(), None);
     assert!(rt; trace.text(true)?.as_slice() == text.as_slice());
