@@ -1,4 +1,5 @@
 //! What traces hold, and their texts.
+ghost use Rattle.trace.specs.Records.{IsRecord};
 
 use meaning::{Action, Check, Inputs, Note, Record, Reply, Stop};
 use std::test::Fail;
@@ -84,7 +85,9 @@ fn steps_that_grow_leave_equal_ones(rt: HostRuntime) -> Result<(), Fail> {
 }
 
 /// Record `i` of a long run: every second one is one of ten, and the others are 300 different ones, again and again.
-fn of_long_run(i: u32) -> Record {
+fn of_long_run(i: u32) -> Record
+    ensures { IsRecord result }
+{
     if i % 2 == 0 {
         return Record::Wrote { a: i % 600, v: -1 };
     }
