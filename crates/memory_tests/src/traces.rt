@@ -2,6 +2,7 @@
 ghost use Rattle.trace.specs.Records.{IsRecord};
 
 use meaning::{Action, Check, Inputs, Note, Record, Reply, Stop};
+use std::alloc::{AllocError, Global};
 use std::test::Fail;
 use trace::Trace;
 
@@ -99,27 +100,40 @@ fn of_long_run(i: u32) -> Record
     Record::Noted { t: 0, note }
 }
 
-#[test]
-fn a_long_run_has_its_records_in_order(rt: HostRuntime) -> Result<(), Fail> {
-    let mut trace = Trace::new(rt.alloc());
-    let mut text = Vec::new(rt.alloc());
-    for i in 0..2_000_u32 {
-        let mut alone = Trace::new(rt.alloc());
-        alone.reserve(1)?;
-        alone.push(of_long_run(i));
-        text.extend_from_slice(alone.text(true)?.as_slice())?;
+/// The trace of so many records of that run.
+fn long_run(alloc: Global, n: u32) -> Result<Trace, AllocError> {
+    let mut trace = Trace::new(alloc);
+    for i in 0..n {
         trace.reserve(1)?;
         trace.push(of_long_run(i));
     }
-    assert_eq!(rt; trace.len(), 2_000);
-    for i in 0..2_000_u32 {
-        assert_eq!(rt;
-            trace.get(i as usize).copied(),
-            Some(of_long_run(i)),
-            "record {i}"
-        );
+    Ok(trace)
+}
+
+/// The texts of so many traces of one record each.
+fn texts_alone(alloc: Global, n: u32) -> Result<Vec<u8>, AllocError> {
+    let mut text = Vec::new(alloc);
+    for i in 0..n {
+        let mut alone = Trace::new(alloc);
+        alone.reserve(1)?;
+        alone.push(of_long_run(i));
+        text.append(&mut alone.text(true)?)?;
     }
+    Ok(text)
+}
+
+/// Whether the trace has the records of that run.
+fn has_long_run(trace: &Trace, n: u32) -> bool {
+    (0..n).all(|i| trace.get(i as usize).copied() == Some(of_long_run(i)))
+}
+
+#[test]
+fn a_long_run_has_its_records_in_order(rt: HostRuntime) -> Result<(), Fail> {
+    let trace = long_run(rt.alloc(), 2_000)?;
+    assert_eq!(rt; trace.len(), 2_000);
+    assert!(rt; has_long_run(&trace, 2_000));
     assert_eq!(rt; trace.get(2_000).copied(), None);
+    let text = texts_alone(rt.alloc(), 2_000)?;
     assert!(rt; trace.text(true)?.as_slice() == text.as_slice());
     assert!(rt; trace.text(false)?.as_slice() == text.as_slice());
     Ok(())
